@@ -1,0 +1,4 @@
+pub mod Rounding
+pub mod Payments
+pub mod Bounds
+pub mod Paying
