@@ -1,1 +1,16 @@
+pub mod Limits
+pub mod Tickers
 pub mod Months
+pub mod Quotations
+pub mod Meaning
+pub mod Quoted
+pub mod Delivery
+pub mod Means
+pub mod MeanFacts
+pub mod Averages
+pub mod AverageFacts
+pub mod Weighting
+pub mod Indexes
+pub mod IndexFacts
+pub mod Indexing
+pub mod Worked

@@ -1,5 +1,5 @@
--- The letters of the months, and the table of the tickers with the letters that each lists.
-use mathlib.Core.Bool.{Bool, true, false, cond, _||_}
+-- The letters of the months, and which of them each ticker lists.
+use mathlib.Core.Bool.{Bool, false, cond, _||_}
 use mathlib.Core.List.{List, [], _∷_}
 use Prim.Native.Nat.{ℕ, _+_}
 use lib.Chars.{codes}
@@ -7,7 +7,7 @@ use lib.Dec.{eqb}
 use Rattle.std.specs.declared.option.Option.{Option}
 use Rattle.std.specs.declared.option.Option.the-variants.{None, Some}
 use Rattle.kinds.specs.declared.months.Ticker.{Ticker}
-use Rattle.kinds.specs.declared.months.Ticker.the-variants.{Arabica, MiniArabica, MiniCattle}
+use Rattle.kinds.specs.Tickers.{row}
 
 -- where a letter stands in a list that is counted from n
 abbrev pub place-from : ℕ → List ℕ → ℕ → Option ℕ
@@ -25,15 +25,11 @@ one-of (x ∷ xs) c = eqb c x || one-of xs c
 
 -- the three letters of a ticker
 abbrev pub code-of : Ticker → List ℕ
-code-of Arabica = codes "ICF"
-code-of MiniArabica = codes "WCF"
-code-of MiniCattle = codes "WBG"
+code-of t = row t .code
 
 -- the month letters that a ticker lists
 abbrev pub letters : Ticker → List ℕ
-letters Arabica = codes "HKNUZ"
-letters MiniArabica = codes "HKNUZ"
-letters MiniCattle = codes "FGHJKMNQUVXZ"
+letters t = row t .months
 
 -- the month that a letter names, where the ticker lists it
 abbrev pub listed-month : Ticker → ℕ → Option ℕ

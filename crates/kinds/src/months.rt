@@ -1,4 +1,4 @@
-// Delivery months, and the letters that each ticker lists.
+// The tickers, the letters of the delivery months, and which of them each ticker lists.
 ghost use mathlib.Core.Path.{_≡_};
 ghost use Rattle.kinds.specs.Months.{month-of, listed-month};
 
