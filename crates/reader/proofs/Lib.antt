@@ -1,0 +1,6 @@
+mod Agreeing
+mod Askings
+mod Covering
+mod Cutting
+mod Stepping
+mod Values

@@ -1,0 +1,9 @@
+pub mod Cuts
+pub mod Fields
+pub mod Layouts
+pub mod Numbers
+pub mod Entries
+pub mod Readings
+pub mod Saying
+pub mod Steps
+pub mod Examples
