@@ -1,0 +1,5 @@
+pub mod Line
+pub mod Refusals
+pub mod Runs
+pub mod Laws
+pub mod Examples
