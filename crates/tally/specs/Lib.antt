@@ -1,0 +1,13 @@
+pub mod Rows
+pub mod Refusals
+pub mod Account
+pub mod Book
+pub mod Pages
+pub mod Events
+pub mod Questions
+pub mod Steps
+pub mod Runs
+pub mod Logs
+pub mod Law
+pub mod Bounds
+pub mod Examples
