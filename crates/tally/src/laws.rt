@@ -1,10 +1,11 @@
 // The laws of every run of calls, each the contract of a function.
 ghost use mathlib.Core.List.{List};
-ghost use Rattle.std.specs.shelf.Lists.{All};
-ghost use Rattle.tally.specs.Bounds.{Bounds-law, Final-priced};
+ghost use Rattle.tally.specs.Book.{Terms};
+ghost use Rattle.tally.specs.Bounds.{Bounded, Bounds-law};
 ghost use Rattle.tally.specs.Events.{Request, events};
 ghost use Rattle.tally.specs.Examples.{Question-order, Worked-delivery, Worked-offset, Worked-run};
-ghost use Rattle.tally.specs.Law.{Settlement-law};
+ghost use Rattle.tally.specs.Law.{Buildable, Settled, Settlement-law};
+ghost use Rattle.tally.specs.Runs.{shown};
 use kinds::contract::Contract;
 
 // Every run is settled.
@@ -21,9 +22,10 @@ pub fn bounds_stand() -> u8
     0
 }
 
-// Whatever is sent to a book over any kind, a final price that comes with it is a price.
-pub fn finals_are_prices<K: Contract>() -> u8
-    ensures { λ _. ⌜ ((k : K) (rs : List Request) → All Final-priced (events means k rs)) ⌝ }
+// Whatever is sent to a book over any kind, the run is settled and its numbers are bounded.
+pub fn any_kind_settles<K: Contract>() -> u8
+    ensures settled { λ _. ⌜ ((c : Terms) → Buildable c → (k : K) (rs : List Request) → Settled c (events means k rs)) ⌝ }
+    ensures bounded { λ _. ⌜ ((c : Terms) → Buildable c → (k : K) (rs : List Request) → Bounded c (shown c (events means k rs))) ⌝ }
 {
     0
 }
