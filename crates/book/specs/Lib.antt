@@ -1,1 +1,3 @@
 pub mod Sheets
+pub mod Reached
+pub mod Ledgers

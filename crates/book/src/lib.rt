@@ -1,3 +1,4 @@
-// The engine of a book, from the ground up: so far what a marking owes one account, read off the day sheet.
+// The engine of a book, from the ground up: its ledger, the calls on it, and what a marking owes an account.
 mod owed;
 mod sheet;
+pub mod state;
