@@ -6,3 +6,4 @@ pub mod Reaching
 pub mod Enrolling
 pub mod Tables
 pub mod Noticing
+pub mod Changes
