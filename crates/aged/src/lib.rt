@@ -1,4 +1,6 @@
 //! A line of rows, oldest first, in the first `used` places of a slice. A `used` past the end of the slice is read as its length.
+#![tactic(auto)]
+
 ghost use Rattle.std.specs.Prelude.{◌≡◌, ℕ, ◌+◌, ◌<◌, ◌≤◌, min, length, MatchResult};
 ghost use Rattle.aged.specs.Line.{Counting, line, append, first, held, take_oldest, rows_of, held_by, take_of};
 ghost use Rattle.aged.specs.Refusals.{Refused};

@@ -1,4 +1,6 @@
 // Contract kinds: what each is to a book, its own quotation rule, and the table of the tickers.
+#![tactic(auto)]
+
 pub mod contract;
 pub mod delivering;
 pub mod indexes;

@@ -1,4 +1,6 @@
 // The engine of a book, from the ground up: its ledger, the calls on it, and what a page owes and pays.
+#![tactic(auto)]
+
 mod owed;
 mod pages;
 mod settled;

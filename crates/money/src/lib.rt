@@ -1,4 +1,6 @@
 // Money: currencies, ranges of numbers as types, and what one line pays.
+#![tactic(auto)]
+
 pub mod amount;
 pub mod currency;
 pub mod laws;

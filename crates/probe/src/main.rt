@@ -1,4 +1,6 @@
 // Drives a book call by call from a script on standard input, and prints what each call answers.
+#![tactic(auto)]
+
 use books::{AnyBook, Building, build};
 use script::{Line, Request, read};
 use std::alloc::Global;

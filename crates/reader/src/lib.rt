@@ -1,4 +1,6 @@
 // Records out of bytes. An input is cut into lines, each line is one record, and each is read as what it says or as the first fault that applies.
+#![tactic(auto)]
+
 pub mod digits;
 pub mod fault;
 mod layout;

@@ -1,4 +1,6 @@
 // Settles a file of records: reads it whole, answers each record, and writes the report at once.
+#![tactic(auto)]
+
 ghost use Rattle.std.specs.Prelude.{◌≡◌, ◌+◌, ◌*◌, ◌^◌, ◌≤◌, MatchOption};
 
 use anyhow::anyhow;

@@ -1,4 +1,6 @@
 // Settles a file of records: reads it whole, runs its book, and writes the report at once.
+#![tactic(auto)]
+
 use anyhow::anyhow;
 use desk::whole::report;
 use std::io::{Read, Write};

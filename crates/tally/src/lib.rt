@@ -1,4 +1,6 @@
 // The specification of a book: what its rows, calls and refusals are, and the laws of every run of calls.
+#![tactic(auto)]
+
 pub mod call;
 pub mod laws;
 pub mod refusal;
