@@ -2,7 +2,7 @@
 ghost use Rattle.std.specs.Prelude.{◌≡◌, [], ◌∷◌, MatchResult};
 ghost use Rattle.aged.specs.Line.{line};
 ghost use Rattle.aged.specs.Examples.{lot, notice, request, lot_counting, notice_counting, request_counting, lots_after, Worked};
-ghost use Rattle.std.proofs.Common.{rules};
+ghost use Rattle.std.proofs.Common.{refl};
 
 use super::{Owned, Refusal, Row, append, take_of, take_oldest};
 
@@ -32,7 +32,7 @@ impl Row for Lot {
 impl Owned for Lot {
     ghost whose = { λ x. x.account };
 
-    ghost same = { Prim.search rules };
+    ghost same = { λ x n. refl };
 
     fn owner(&self) -> usize {
         self.account
@@ -65,7 +65,7 @@ impl Row for Notice {
 impl Owned for Notice {
     ghost whose = { λ x. x.sender };
 
-    ghost same = { Prim.search rules };
+    ghost same = { λ x n. refl };
 
     fn owner(&self) -> usize {
         self.sender

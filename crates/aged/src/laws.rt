@@ -7,49 +7,49 @@ use super::{Owned, Row};
 
 /// What went and what stands count together what was put in.
 pub fn nothing_lost<R: Row>() -> u8
-    ensures { NothingLost counting }
+    ensures { NothingLost R.Row.counting }
 {
     0
 }
 
 /// The same, owner by owner.
 pub fn nothing_lost_by_owner<R: Owned>() -> u8
-    ensures { NothingLostByOwner R.Row.counting whose }
+    ensures { NothingLostByOwner R.Row.counting R.Owned.whose }
 {
     0
 }
 
 /// First in, first out, unit by unit.
 pub fn in_order<R: Row>() -> u8
-    ensures { InOrder counting }
+    ensures { InOrder R.Row.counting }
 {
     0
 }
 
 /// The same of each owner's units, whatever is taken.
 pub fn in_order_by_owner<R: Owned>() -> u8
-    ensures { InOrderByOwner R.Row.counting whose }
+    ensures { InOrderByOwner R.Row.counting R.Owned.whose }
 {
     0
 }
 
 /// No row stands that counts nothing.
 pub fn closed_up<R: Row>() -> u8
-    ensures { ClosedUp counting }
+    ensures { ClosedUp R.Row.counting }
 {
     0
 }
 
 /// A row that is split changes in nothing but its count.
 pub fn split_by_count<R: Row>() -> u8
-    ensures { SplitByCount counting every }
+    ensures { SplitByCount R.Row.counting every }
 {
     0
 }
 
 /// The same where one owner's rows are taken.
 pub fn split_by_count_of_owner<R: Owned>() -> u8
-    ensures { (o : ℕ) → SplitByCount R.Row.counting (owned_by whose o) }
+    ensures { (o : ℕ) → SplitByCount R.Row.counting (owned_by R.Owned.whose o) }
 {
     0
 }

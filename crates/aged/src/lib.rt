@@ -43,7 +43,7 @@ pub enum Refusal {
 
 /// Puts a row at the end, as the newest.
 pub fn append<R: Row>(rows: &mut [R], used: &mut usize, row: R) -> Result<(), Refusal>
-    ensures cases { MatchResult result (λ _. (0 < counting.count row) × (used.old < length rows.old)) (λ e. Refused (counting.count row) used.old (length rows.old) e) }
+    ensures cases { MatchResult result (λ _. (0 < R.Row.counting.count row) × (used.old < length rows.old)) (λ e. Refused (R.Row.counting.count row) used.old (length rows.old) e) }
     ensures after { MatchResult result (λ _. (used.new ≡ used.old + 1) × (line used.new rows.new ≡ append row (line used.old rows.old))) (λ _. (used.new ≡ used.old) × (rows.new ≡ rows.old)) }
 {
     if row.count() == 0 {
@@ -70,7 +70,7 @@ pub fn oldest<R: Row>(rows: &[R], used: usize) -> Option<R>
 
 /// The oldest row of an owner.
 pub fn oldest_of<R: Owned>(rows: &[R], used: usize, owner: usize) -> Option<R>
-    ensures { result ≡ first (rows_of whose owner (line used rows.now)) }
+    ensures { result ≡ first (rows_of R.Owned.whose owner (line used rows.now)) }
 {
     for i in 0..used.min(rows.len()) {
         let row = rows[i];
@@ -83,22 +83,22 @@ pub fn oldest_of<R: Owned>(rows: &[R], used: usize, owner: usize) -> Option<R>
 
 /// What all rows count.
 pub fn held<R: Row>(rows: &[R], used: usize) -> u128
-    ensures { result ≡ held counting (line used rows.now) }
+    ensures { result ≡ held R.Row.counting (line used rows.now) }
 {
     picked::held_picked(rows, used, &Every)
 }
 
 /// What an owner holds.
 pub fn held_by<R: Owned>(rows: &[R], used: usize, owner: usize) -> u128
-    ensures { result ≡ held_by R.Row.counting whose owner (line used rows.now) }
+    ensures { result ≡ held_by R.Row.counting R.Owned.whose owner (line used rows.now) }
 {
     picked::held_picked(rows, used, &OwnedBy(owner))
 }
 
 /// Takes n from the oldest rows, or as much as they count; says how much.
 pub fn take_oldest<R: Row>(rows: &mut [R], used: &mut usize, n: u32) -> u32
-    ensures value { result ≡ min n (held counting (line used.old rows.old)) }
-    ensures after { line used.new rows.new ≡ take_oldest counting n (line used.old rows.old) }
+    ensures value { result ≡ min n (held R.Row.counting (line used.old rows.old)) }
+    ensures after { line used.new rows.new ≡ take_oldest R.Row.counting n (line used.old rows.old) }
     ensures within { (used.new ≤ used.old) × (used.new ≤ length rows.new) }
 {
     picked::take_picked(rows, used, n, &Every)
@@ -106,8 +106,8 @@ pub fn take_oldest<R: Row>(rows: &mut [R], used: &mut usize, n: u32) -> u32
 
 /// Takes n from the oldest rows of an owner, or as much as the owner holds; says how much.
 pub fn take_of<R: Owned>(rows: &mut [R], used: &mut usize, owner: usize, n: u32) -> u32
-    ensures value { result ≡ min n (held_by R.Row.counting whose owner (line used.old rows.old)) }
-    ensures after { line used.new rows.new ≡ take_of R.Row.counting whose owner n (line used.old rows.old) }
+    ensures value { result ≡ min n (held_by R.Row.counting R.Owned.whose owner (line used.old rows.old)) }
+    ensures after { line used.new rows.new ≡ take_of R.Row.counting R.Owned.whose owner n (line used.old rows.old) }
     ensures within { (used.new ≤ used.old) × (used.new ≤ length rows.new) }
 {
     picked::take_picked(rows, used, n, &OwnedBy(owner))

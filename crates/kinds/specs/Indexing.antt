@@ -1,10 +1,10 @@
 -- The kind that ends at the mean of its last five indexes, by the five places that it keeps.
 use Rattle.std.specs.Prelude.{◌≡◌, ◌+◌, min, false, cond, None, Ok, Err, sum, nat_le, refl}
-use mathlib.Core.HLevel.{is_prop→PathP}
+use mathlib.Core.HLevel.{is_prop→PathP, ×₃_prop}
 use Rattle.std.proofs.Math.Bridge.{le_prop}
 use std.HLevel.{Π_prop}
 use Rattle.std.specs.Coded.{coded_ℕ, coded_bool}
-use denote.Struct.Props.{three_prop, ≡_prop}
+use denote.Struct.Props.{≡_prop}
 use Rattle.std.proofs.lemmas.Bool.{false≢true, cond-false}
 use Rattle.kinds.specs.declared.indexes.LastFive.{LastFive}
 use Rattle.kinds.specs.declared.quotation.KindFault.TheVariants.{Unfit}
@@ -29,7 +29,7 @@ same_five a b t l n = λ i. record {
   terms = t i;
   last = l i;
   held = n i;
-  ok = is_prop→PathP (λ j. FiveFit (l j) (n j)) (λ j. three_prop (≡_prop coded_ℕ _ _) le_prop (Π_prop (λ x. Π_prop (λ _. ≡_prop coded_bool _ _)))) a.ok b.ok i;
+  ok = is_prop→PathP (λ j. FiveFit (l j) (n j)) (λ j. ×₃_prop (≡_prop coded_ℕ _ _) le_prop (Π_prop (λ x. Π_prop (λ _. ≡_prop coded_bool _ _)))) a.ok b.ok i;
 }
 
 pub five_unmoved : (k : LastFive) (q : Quotation) → is_index q ≡ false → five_after k q ≡ k

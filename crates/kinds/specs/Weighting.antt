@@ -1,8 +1,7 @@
 -- The kind that ends at a weighted average, by the two sums that it keeps.
 use Rattle.std.specs.Prelude.{◌≡◌, ◌+◌, ◌*◌, false, is_ok, refl}
-use mathlib.Core.HLevel.{is_prop→PathP}
+use mathlib.Core.HLevel.{is_prop→PathP, ×₃_prop}
 use Rattle.std.proofs.Math.Bridge.{le_prop}
-use denote.Struct.Props.{three_prop}
 use Rattle.std.proofs.lemmas.Bool.{false≢true}
 use Rattle.kinds.specs.declared.quotation.Quotation.{Quotation}
 use Rattle.kinds.specs.declared.weighted.WeightedAverage.{WeightedAverage}
@@ -27,7 +26,7 @@ same_average a b t v n = λ i. record {
   terms = t i;
   value = v i;
   quantity = n i;
-  ok = is_prop→PathP (λ j. SumsFit (v j) (n j)) (λ j. three_prop le_prop le_prop le_prop) a.ok b.ok i;
+  ok = is_prop→PathP (λ j. SumsFit (v j) (n j)) (λ j. ×₃_prop le_prop le_prop le_prop) a.ok b.ok i;
 }
 
 pub weighted_unmoved : (k : WeightedAverage) (q : Quotation) → is_ok (average_reply k.quantity q) ≡ false → weighted_after k q ≡ k

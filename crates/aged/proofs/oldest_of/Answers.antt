@@ -19,14 +19,14 @@ module _ {R : Type 0} (whose : R → ℕ) (owner used i : ℕ) (rows : List R) w
 
 pub loop-i-preserved : goal.loop-i-preserved
 loop-i-preserved g c =
-    first_other g.R-as-Owned.whose c.args.owner c.args.used c.loop-i.i c.args.rows.now c.index-rows-i.result (omega arith) (omega arith) c.index-rows-i.is (omega arith)
+    first_other g.R.Owned.whose c.args.owner c.args.used c.loop-i.i c.args.rows.now c.index-rows-i.result (omega arith) (omega arith) c.index-rows-i.is (omega arith)
     ∙ c.loop-i.invariant
 
 pub returns-then-owner : goal.returns-then-owner
 returns-then-owner g c =
-    first_own g.R-as-Owned.whose c.args.owner c.args.used c.loop-i.i c.args.rows.now c.index-rows-i.result (omega arith) (omega arith) c.index-rows-i.is (omega arith)
+    first_own g.R.Owned.whose c.args.owner c.args.used c.loop-i.i c.args.rows.now c.index-rows-i.result (omega arith) (omega arith) c.index-rows-i.is (omega arith)
     ∙ c.loop-i.invariant
 
 pub returns : goal.returns
 returns g c =
-    sym (ap (λ l. first (rows_of g.R-as-Owned.whose c.args.owner l)) (none_left c.args.used c.loop-i.i c.args.rows.now (omega arith))) ∙ c.loop-i.invariant
+    sym (ap (λ l. first (rows_of g.R.Owned.whose c.args.owner l)) (none_left c.args.used c.loop-i.i c.args.rows.now (omega arith))) ∙ c.loop-i.invariant

@@ -6,4 +6,4 @@ use Rattle.aged.proofs.oldest_of.Given as goal
 abbrev pub invariant-loop-i : goal.invariant-loop-i
 invariant-loop-i g l =
     let all = line l.used l.rows in
-    first (rows_of g.R-as-Owned.whose l.owner (drop l.i all)) ≡ first (rows_of g.R-as-Owned.whose l.owner all)
+    first (rows_of g.R.Owned.whose l.owner (drop l.i all)) ≡ first (rows_of g.R.Owned.whose l.owner all)

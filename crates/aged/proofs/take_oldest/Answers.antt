@@ -5,7 +5,7 @@ use Rattle.aged.proofs.take_oldest.Goals as goal
 
 pub returns : goal.returns
 returns g c =
-    let facts = c.take-picked.ensures in
+    let facts = c.take_picked.ensures in
     record {
       value = at_every (λ rows. min c.args.n (held g.R.Row.counting rows)) (line c.args.used.now c.args.rows.now) facts.value;
       after = facts.after;

@@ -3,4 +3,4 @@ use Rattle.aged.proofs.Parts.{split_by_count}
 use Rattle.aged.proofs.laws.split_by_count_of_owner.Goals as goal
 
 pub returns : goal.returns
-returns g c = λ o. split_by_count g.R.Row.counting (owned_by g.R-as-Owned.whose o)
+returns g c = λ o. split_by_count g.R.Row.counting (owned_by g.R.Owned.whose o)

@@ -18,7 +18,7 @@ loop-i-preserved g c =
       | else-not-picked+then-count-left w ↦ rw (w.rows-is, w.left-is, w.keep-is)
           (taking_whole m p c.loop-i.invariant (omega arith) (omega arith) c.index-rows-i.is _ counts w.if-not-picked.false.0 (picks ∙ w.if-not-picked.false.1) (omega arith))
       | else-not-picked+else-count-left w ↦ rw (w.rows-is, w.left-is, w.keep-is)
-          (taking_part m p c.loop-i.invariant (omega arith) (omega arith) c.index-rows-i.is _ _ counts w.with-count.ensures w.if-not-picked.false.0 (picks ∙ w.if-not-picked.false.1) (omega arith))
+          (taking_part m p c.loop-i.invariant (omega arith) (omega arith) c.index-rows-i.is _ _ counts w.with_count.ensures w.if-not-picked.false.0 (picks ∙ w.if-not-picked.false.1) (omega arith))
     ]
 
 pub returns : goal.returns

@@ -12,6 +12,6 @@ pub returns : goal.returns
 returns c =
     let k = ended c.loop-price.kind _ worked c.loop-price.price-index (omega arith) c.loop-price.invariant in
     record {
-      value = c.final-price.ensures ∙ (ap five.final k ∙ worked_line c.new-kind.result c.new-kind.ensures.law);
+      value = c.final_price.ensures ∙ (ap five.final k ∙ worked_line c.new-kind.result c.new-kind.ensures.law);
       law = worked_line;
     }

@@ -1,4 +1,4 @@
-use Rattle.std.proofs.Common.{◌≡◌, ℕ, ◌<◌, sym, ap, ◌∙◌, arith, w64, to_z, of_z}
+use Rattle.std.proofs.Common.{◌≡◌, ◌≢◌, rules, ℕ, ◌<◌, sym, ap, ◌∙◌, arith, w64, to_z, of_z}
 use borrow.Author.Differences.{ints}
 use Rattle.money.specs.declared.currency.Currency.{Currency}
 use Rattle.money.specs.Weights.{weight}
@@ -10,26 +10,27 @@ use Rattle.money.proofs.payment.pay.Goals as goal
 pub returns-then-eq : goal.returns-then-eq
 returns-then-eq c =
     let some : 0 < c.args.rate.millionths = omega arith in
-    let h = unconverted _ _ _ _ some (c.if-eq.ensures ∙ c.paid-in-currency.ensures) (omega (arith, ints)) (omega (arith, ints)) c.is-converted-converted.ensures in
+    let same : c.args.contract ≡ c.paid_in-currency.result = search rules in
+    let h = unconverted _ _ _ _ some (same ∙ c.paid_in-currency.ensures) (omega (arith, ints)) (omega (arith, ints)) c.is_converted-converted.ensures in
     record { pays = h; value = payment_unique _ _ _ _ _ some h }
 
 pub weighed-owed-requires : goal.weighed-owed-requires
-weighed-owed-requires c = omega (arith, owed_fits (to_z w64 (of_z w64 c.cents-cents.result)) c.cent-weight.result (omega (arith, ints)) (omega arith))
+weighed-owed-requires c = omega (arith, owed_fits (to_z w64 (of_z w64 c.cents-cents.result)) c.cent_weight.result (omega (arith, ints)) (omega arith))
 
 pub nearest-paid-requires : goal.nearest-paid-requires
 nearest-paid-requires c =
-    let fits = owed_fits (to_z w64 (of_z w64 c.cents-cents.result)) c.cent-weight.result (omega (arith, ints)) (omega arith) in
+    let fits = owed_fits (to_z w64 (of_z w64 c.cents-cents.result)) c.cent_weight.result (omega (arith, ints)) (omega arith) in
     record { small = omega (arith, ints); some = omega arith }
 
 pub weighed-requires : goal.weighed-requires
 weighed-requires c =
-    let fits = owed_fits (to_z w64 (of_z w64 c.cents-cents.result)) c.cent-weight.result (omega (arith, ints)) (omega arith) in
+    let fits = owed_fits (to_z w64 (of_z w64 c.cents-cents.result)) c.cent_weight.result (omega (arith, ints)) (omega arith) in
     let half = within _ _ _ (omega arith) c.nearest-paid.ensures in
     let paid : to_z w64 (of_z w64 c.nearest-paid.result) ≡ c.nearest-paid.result = omega (arith, ints) in
     simp paid (omega (arith, ints))
 
-pub overflow-sub-result : goal.overflow-sub-result
-overflow-sub-result c =
+pub overflow_sub-result : goal.overflow_sub-result
+overflow_sub-result c =
     let half = within _ _ _ (omega arith) c.nearest-paid.ensures in
     let paid : to_z w64 (of_z w64 c.nearest-paid.result) ≡ c.nearest-paid.result = omega (arith, ints) in
     let weight_paid = simp paid at c.weighed.ensures in
@@ -43,10 +44,11 @@ returns c =
     let paid : to_z w64 (of_z w64 c.nearest-paid.result) ≡ c.nearest-paid.result = omega (arith, ints) in
     let owes : to_z w64 (of_z w64 c.weighed-owed.result) ≡ c.weighed-owed.result = omega (arith, ints) in
     let weight_paid = simp paid at c.weighed.ensures in
-    let h = converts _ _ _ _ some (λ s. c.if-eq.ensures (s ∙ sym c.paid-in-currency.ensures)) c.nearest-paid.ensures
-    (owes ∙ simp (read, c.cent-weight.ensures.value) at c.weighed-owed.ensures)
-    (c.cent-weight-unit.ensures.value ∙ ap (λ (x : Currency). weight x c.args.rate.millionths) c.paid-in-currency.ensures)
+    let differ : c.args.contract ≢ c.paid_in-currency.result = search rules in
+    let h = converts _ _ _ _ some (λ s. differ (s ∙ sym c.paid_in-currency.ensures)) c.nearest-paid.ensures
+    (owes ∙ simp (read, c.cent_weight.ensures.value) at c.weighed-owed.ensures)
+    (c.cent_weight-unit.ensures.value ∙ ap (λ (x : Currency). weight x c.args.rate.millionths) c.paid_in-currency.ensures)
     (omega (arith, ints))
     (omega (arith, ints))
-    c.is-converted-converted.ensures in
+    c.is_converted-converted.ensures in
     record { pays = h; value = payment_unique _ _ _ _ _ some h }

@@ -7,10 +7,10 @@ pub loop-piece-init : goal.loop-piece-init
 loop-piece-init c = put_none _ _ (search rules)
 
 pub loop-piece-preserved : goal.loop-piece-preserved
-loop-piece-preserved c = put_more piece_text c.args.pieces.now c.loop-piece.piece-index _ c.args.out.now c.loop-piece.out _ _ _ _ c.loop-piece.invariant c.in-ok-end.ensures (search rules) (search rules)
+loop-piece-preserved c = put_more piece_text c.args.pieces.now c.loop-piece.piece-index _ c.args.out.now c.loop-piece.out _ _ _ _ c.loop-piece.invariant c.in_ok-end.ensures (search rules) (search rules)
 
-pub returns-in-err-end : goal.returns-in-err-end
-returns-in-err-end c = rw c.from-residual.ensures (put_cut piece_text c.args.pieces.now c.loop-piece.piece-index _ c.args.out.now c.loop-piece.out _ _ c.loop-piece.invariant c.in-err-end.ensures (search rules) (search rules))
+pub returns-in_err-end : goal.returns-in_err-end
+returns-in_err-end c = rw c.from_residual.ensures (put_cut piece_text c.args.pieces.now c.loop-piece.piece-index _ c.args.out.now c.loop-piece.out _ _ c.loop-piece.invariant c.in_err-end.ensures (search rules) (search rules))
 
 pub returns : goal.returns
 returns c = put_all piece_text c.args.pieces.now c.loop-piece.piece-index _ _ _ _ c.loop-piece.invariant (search rules)
