@@ -26,8 +26,8 @@ pub fn bounds_stand() -> u8
 
 // Whatever is sent to a book over any kind, the run is settled and its numbers are bounded.
 pub fn any_kind_settles<K: Contract>() -> u8
-    ensures settled { (c : Terms) → Buildable c → (k : K) (rs : List Request) → Settled c (events means k rs) }
-    ensures bounded { (c : Terms) → Buildable c → (k : K) (rs : List Request) → Bounded c (shown c (events means k rs)) }
+    ensures settled { (c : Terms) → Buildable c → (k : K) (rs : List Request) → Settled c (events K.Contract.means k rs) }
+    ensures bounded { (c : Terms) → Buildable c → (k : K) (rs : List Request) → Bounded c (shown c (events K.Contract.means k rs)) }
 {
     0
 }
