@@ -1,5 +1,5 @@
 // The lots as a marking turns them: what an account is left long of.
-ghost use Rattle.std.specs.Prelude.{◌≡◌, ◌+◌, ◌<◌, ◌≤◌, ltb, map, length, take, if◌then◌else◌, count_by, nat_lt, unsigned_abs};
+ghost use Rattle.std.specs.Prelude.{◌≡◌, cond, ◌+◌, ◌<◌, ◌≤◌, ltb, map, length, take, if◌then◌else◌, count_by, nat_lt, unsigned_abs};
 ghost use Rattle.std.specs.List.{AllByRecursion as All};
 ghost use Rattle.tally.specs.Account.{long};
 ghost use Rattle.tally.specs.Questions.{opens_lot};

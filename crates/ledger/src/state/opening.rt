@@ -1,5 +1,5 @@
 // A ledger with nothing in it.
-ghost use Rattle.std.specs.Prelude.{◌≡◌, ◌&&◌, is_ok, if◌then◌else◌, MatchResult, ◌==◌, nat_le, nat_lt};
+ghost use Rattle.std.specs.Prelude.{◌≡◌, ◌≤◌, ◌&&◌, is_ok, if◌then◌else◌, MatchResult, ◌==◌, nat_le, nat_lt};
 ghost use Rattle.tally.specs.Law.{Buildable};
 ghost use Rattle.tally.specs.Questions.{between, is_buildable};
 ghost use Rattle.tally.specs.Runs.{opened};
@@ -63,7 +63,7 @@ impl Ledger {
     // The ledger of a book that has just been built.
     fn blank(terms: BookTerms) -> Ledger
         requires built { Buildable (terms_in terms) }
-        requires ticked { (1 ≤ terms).tick }
+        requires ticked { 1 ≤ terms.tick }
         ensures view { view result ≡ opened }
         ensures terms { result.terms ≡ terms }
     {

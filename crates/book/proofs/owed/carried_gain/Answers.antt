@@ -7,8 +7,8 @@ use Rattle.book.proofs.owed.carried_gain.Goals as goal
 pub returns : goal.returns
 returns c =
     let a = to_z-of_z w64 c.args.carried c.ranges.carried in
-    let b = to_z-of_z w64 c.rise.result (record { sfits = c.rise.type-inv }) in
-    let r = to_z-of_z w64 c.times.result (record { sfits = c.times.type-inv }) in
+    let b = to_z-of_z w64 c.rise.result (record { sfits = c.rise.type_inv }) in
+    let r = to_z-of_z w64 c.times.result (record { sfits = c.times.type_inv }) in
     let is : c.times.result ≡ c.args.carried *ℤ c.rise.result = simp (a, b) at c.times.ensures.value in
     let m = product_within c.args.carried c.rise.result 3000 999999 c.requires.carried c.rise.ensures.below in
     record { value = r ∙ is ∙ ap (λ (z : ℤ). c.args.carried *ℤ z) c.rise.ensures.value; below = rw r (rw is (omega arith)) }

@@ -3,8 +3,8 @@ use borrow.Author.Differences.{ints}
 use Rattle.book.proofs.Products.{product_within}
 use Rattle.book.proofs.owed.times.Goals as goal
 
-pub overflow-mul-result : goal.overflow-mul-result
-overflow-mul-result c =
+pub overflow_mul-result : goal.overflow_mul-result
+overflow_mul-result c =
     let a : to_z w64 (of_z w64 c.args.a) ≡ c.args.a = omega (arith, ints) in
     let b : to_z w64 (of_z w64 c.args.b) ≡ c.args.b = omega (arith, ints) in
     let m = product_within c.args.a c.args.b 3000 8999991000 c.requires.0 c.requires.1 in

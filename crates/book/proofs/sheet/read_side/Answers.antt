@@ -19,18 +19,18 @@ worth-requires c =
     let row = All-get_or Traded c.args.sheet.now c.loop-trade.trade-index blank c.loop-trade-test.true c.requires.traded in
     record { price = row.0; contracts = omega (arith, row.1) }
 
-pub overflow-add-done-in-loop-trade-2 : goal.overflow-add-done-in-loop-trade-2
-overflow-add-done-in-loop-trade-2 c =
+pub overflow_add-done-in-loop-trade-2 : goal.overflow_add-done-in-loop-trade-2
+overflow_add-done-in-loop-trade-2 c =
     let row = All-get_or Traded c.args.sheet.now c.loop-trade.trade-index blank c.loop-trade-test.true c.requires.traded in
     omega (arith, row.1, c.loop-trade.invariant.2)
 
-pub overflow-add-done-in-loop-trade : goal.overflow-add-done-in-loop-trade
-overflow-add-done-in-loop-trade c =
+pub overflow_add-done-in-loop-trade : goal.overflow_add-done-in-loop-trade
+overflow_add-done-in-loop-trade c =
     let row = All-get_or Traded c.args.sheet.now c.loop-trade.trade-index blank c.loop-trade-test.true c.requires.traded in
     omega (arith, row.1, c.loop-trade.invariant.2, c.loop-trade.invariant.3)
 
-pub overflow-add-done-in-loop-trade-3 : goal.overflow-add-done-in-loop-trade-3
-overflow-add-done-in-loop-trade-3 c =
+pub overflow_add-done-in-loop-trade-3 : goal.overflow_add-done-in-loop-trade-3
+overflow_add-done-in-loop-trade-3 c =
     let row = All-get_or Traded c.args.sheet.now c.loop-trade.trade-index blank c.loop-trade-test.true c.requires.traded in
     omega (arith, row.1, c.loop-trade.invariant.2, c.loop-trade.invariant.4)
 
@@ -44,7 +44,7 @@ loop-trade-preserved c =
     let row = All-get_or Traded c.args.sheet.now c.loop-trade.trade-index blank c.loop-trade-test.true c.requires.traded in
     let inv = c.loop-trade.invariant in (
       read_next c.args.account c.args.side c.args.sheet.now c.loop-trade.trade-index blank c.args.offset _ _ _ _ c.loop-trade-test.true
-          c.contracts-on-contracts.ensures.value c.min-first.ensures c.worth.ensures.value c.worth-in-loop-trade.ensures.value inv.0,
+          c.contracts_on-contracts.ensures.value c.min-first.ensures c.worth.ensures.value c.worth-in-loop-trade.ensures.value inv.0,
       omega (arith, inv.1),
       omega (arith, inv.2, row.1),
       omega (arith, inv.3),

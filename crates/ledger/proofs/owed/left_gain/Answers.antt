@@ -3,11 +3,11 @@ use borrow.Author.Differences.{ints}
 use Rattle.std.proofs.lemmas.Nat.{mul-le}
 use Rattle.ledger.proofs.owed.left_gain.Goals as goal
 
-pub overflow-cast-result : goal.overflow-cast-result
-overflow-cast-result c = omega (arith, ints, mul-le c.args.price c.args.side.left.contracts 999999 3000 c.requires.price c.requires.side.1)
+pub overflow_cast-result : goal.overflow_cast-result
+overflow_cast-result c = omega (arith, ints, mul-le c.args.price c.args.side.left.contracts 999999 3000 c.requires.price c.requires.side.1)
 
-pub overflow-sub-result : goal.overflow-sub-result
-overflow-sub-result c = omega (arith, ints, mul-le c.args.price c.args.side.left.contracts 999999 3000 c.requires.price c.requires.side.1)
+pub overflow_sub-result : goal.overflow_sub-result
+overflow_sub-result c = omega (arith, ints, mul-le c.args.price c.args.side.left.contracts 999999 3000 c.requires.price c.requires.side.1)
 
 pub returns : goal.returns
 returns c =

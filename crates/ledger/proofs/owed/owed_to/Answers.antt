@@ -3,9 +3,9 @@ use borrow.Author.Differences.{ints}
 use Rattle.tally.specs.Account.{offset}
 use Rattle.ledger.proofs.owed.owed_to.Goals as goal
 
-pub owed-by-marking-requires : goal.owed-by-marking-requires
+pub owed_by_marking-requires : goal.owed_by_marking-requires
 unfolding offset
-owed-by-marking-requires c = record {
+owed_by_marking-requires c = record {
   short = c.requires.short;
   traded = c.requires.traded;
   carried = omega (arith, ints, c.requires.contracts.0);

@@ -11,8 +11,8 @@ pub loop-i-init : goal.loop-i-init
 unfolding numbered
 loop-i-init c = (refl, refl)
 
-pub owed-to-requires : goal.owed-to-requires
-owed-to-requires c = record {
+pub owed_to-requires : goal.owed_to-requires
+owed_to-requires c = record {
   short = c.requires.short;
   traded = c.requires.traded;
   contracts = All-get_or ContractsIn c.args.accounts.now c.loop-i.i nobody c.loop-i-test.true c.requires.contracts;
@@ -23,9 +23,9 @@ owed-to-requires c = record {
 
 pub loop-i-preserved : goal.loop-i-preserved
 loop-i-preserved c = (
-  length-set c.loop-i.owed c.loop-i.i c.owed-to.result ∙ c.loop-i.invariant.0,
+  length-set c.loop-i.owed c.loop-i.i c.owed_to.result ∙ c.loop-i.invariant.0,
   number_more (owed_at c.args.settling c.args.size c.args.sheet.now c.args.last c.args.price) c.args.accounts.now c.loop-i.owed c.loop-i.i nobody
-      c.loop-i-test.true (omega (arith, c.loop-i.invariant.0)) c.owed-to.ensures c.loop-i.invariant.1,
+      c.loop-i-test.true (omega (arith, c.loop-i.invariant.0)) c.owed_to.ensures c.loop-i.invariant.1,
 )
 
 pub returns : goal.returns

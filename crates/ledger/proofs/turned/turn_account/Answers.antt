@@ -21,6 +21,6 @@ returns-else-held-left c =
     let held : c.holding-held.result ≡ long c.args.before = c.holding-held.ensures.value ∙ ap long (to_z-of_z w64 c.args.before c.ranges.before) in
     let left : c.holding-left.result ≡ long c.args.after = c.holding-left.ensures.value ∙ ap long (to_z-of_z w64 c.args.after c.ranges.after) in
     record {
-      lots = c.take-of.ensures.after ∙ aged_shrinks c.args.before c.args.after held left c.args.session c.args.owner (take c.args.used.now c.args.lots.now) c.if-held-left.false;
-      used = omega (arith, c.take-of.ensures.within.0);
+      lots = c.take_of.ensures.after ∙ aged_shrinks c.args.before c.args.after held left c.args.session c.args.owner (take c.args.used.now c.args.lots.now) c.if-held-left.false;
+      used = omega (arith, c.take_of.ensures.within.0);
     }

@@ -9,8 +9,8 @@ use Rattle.ledger.proofs.turned.turn_lots.Goals as goal
 pub net-requires : goal.net-requires
 net-requires c = All-get_or ContractsIn c.args.accounts.now c.loop-i.i nobody c.loop-i-test.true c.requires.contracts
 
-pub turn-account-requires : goal.turn-account-requires
-turn-account-requires c =
+pub turn_account-requires : goal.turn_account-requires
+turn_account-requires c =
     let xs = c.args.accounts.now in
     let i = c.loop-i.i in
     let a = get_or xs i nobody in
@@ -31,8 +31,8 @@ loop-i-preserved c =
     let small : nat_abs c.net.result ≤ 9000 = net_in a c.net.ensures k in
     let left = read_signed c.net.result 9000 small (omega arith) in
     let next = opens_next xs i nobody c.loop-i-test.true carried (left ∙ c.net.ensures) in (
-      turned_next xs i nobody c.loop-i-test.true c.args.session (take c.loop-i.used c.loop-i.lots) carried (left ∙ c.net.ensures) c.turn-account.ensures.lots ∙ c.loop-i.invariant.0,
-      omega (arith, next, c.loop-i.invariant.1, c.turn-account.ensures.used),
+      turned_next xs i nobody c.loop-i-test.true c.args.session (take c.loop-i.used c.loop-i.lots) carried (left ∙ c.net.ensures) c.turn_account.ensures.lots ∙ c.loop-i.invariant.0,
+      omega (arith, next, c.loop-i.invariant.1, c.turn_account.ensures.used),
     )
 
 pub returns : goal.returns

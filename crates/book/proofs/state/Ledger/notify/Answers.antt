@@ -12,10 +12,10 @@ unfolding done
 returns c =
     let l = c.args.self.now in
     let n = c.args.notification in
-    let none = passed _ c.in-ok-notice-verdict.ensures in
+    let none = passed _ c.in_ok-notice_verdict.ensures in
     record {
       answers = sym (ap judged none);
-      after = c.enter-notice.ensures.view ∙ sym (accepted (terms_of l) (view l) (noticing n) none);
-      terms = c.enter-notice.ensures.terms;
+      after = c.enter_notice.ensures.view ∙ sym (accepted (terms_of l) (view l) (noticing n) none);
+      terms = c.enter_notice.ensures.terms;
       same = λ e. absurd (false≢true (sym e));
     }

@@ -4,14 +4,14 @@ use Rattle.tally.proofs.Facts.{between_is}
 use Rattle.ledger.proofs.Trading.{parties, net_within}
 use Rattle.ledger.proofs.state.Ledger.buyer_net.Goals as goal
 
-pub overflow-add-result : goal.overflow-add-result
-overflow-add-result c =
+pub overflow_add-result : goal.overflow_add-result
+overflow_add-result c =
     let l = c.args.self.now in
     let t = c.args.trade in
-    omega (arith, ints, net_within l t.buyer (parties l t c.requires.parties).buyer, (between_is 1 3000 t.contracts c.requires.counted).1, c.net-of.ensures)
+    omega (arith, ints, net_within l t.buyer (parties l t c.requires.parties).buyer, (between_is 1 3000 t.contracts c.requires.counted).1, c.net_of.ensures)
 
 pub returns : goal.returns
 returns c =
     let l = c.args.self.now in
     let t = c.args.trade in
-    omega (arith, ints, net_within l t.buyer (parties l t c.requires.parties).buyer, (between_is 1 3000 t.contracts c.requires.counted).1, c.net-of.ensures)
+    omega (arith, ints, net_within l t.buyer (parties l t c.requires.parties).buyer, (between_is 1 3000 t.contracts c.requires.counted).1, c.net_of.ensures)

@@ -36,8 +36,8 @@ pay-sums-requires c =
       page = (marking_met l c.args.marking _ c.requires).room;
     }
 
-pub settle-accounts-requires : goal.settle-accounts-requires
-settle-accounts-requires c =
+pub settle_accounts-requires : goal.settle_accounts-requires
+settle_accounts-requires c =
     let l = c.args.self.now in
     let owed = c.owed-owed.ensures in
     let cut = front l.registered c.owed-owed.result in
@@ -48,8 +48,8 @@ settle-accounts-requires c =
       owed = subst (All OwedIn) (sym cut) owed.within;
     }
 
-pub turn-lots-requires : goal.turn-lots-requires
-turn-lots-requires c =
+pub turn_lots-requires : goal.turn_lots-requires
+turn_lots-requires c =
     let l = c.args.self.now in
     let cut = front l.registered l.accounts in
     let used = length-take-le l.lots_used l.lots (omega (arith, l.tables.2.0, l.tables.2.1)) in
@@ -59,20 +59,20 @@ turn-lots-requires c =
       room = omega (arith, ap (count_by opens_lot) cut, few_lots l, used, l.tables.2.0);
     }
 
-pub overflow-add-self : goal.overflow-add-self
-overflow-add-self c = let s = session_in c.args.self.now in omega arith
+pub overflow_add-self : goal.overflow_add-self
+overflow_add-self c = let s = session_in c.args.self.now in omega arith
 
-pub invariant-of-self : goal.invariant-of-self
+pub invariant_of-self : goal.invariant_of-self
 unfolding done
-invariant-of-self c =
+invariant_of-self c =
     let l = c.args.self.now in
     let m = c.args.marking in
     let price = of_some c.new.result c.unwrap-price.result _ _ c.new.ensures.some c.unwrap-price.ensures in
     let rate = of_some c.new-2.result c.unwrap-rate.result _ _ c.new-2.ensures.some c.unwrap-rate.ensures in
-    let left = marked_view l m c.owed-owed.result c.turn-lots.new.lots c.turn-lots.new.used price c.owed-owed.ensures.owed c.settle-accounts.ensures c.turn-lots.ensures.lots c.cents-self.ensures.value (c.millionths-self.ensures.value ∙ rate) in (
-      ((omega (arith, l.tables.0.0), l.tables.0.1), (l.tables.1.0, omega arith), (omega (arith, l.tables.2.0), omega (arith, c.turn-lots.ensures.used, l.tables.2.0)), l.tables.3),
-      (∥∥₁_map l.reached (λ (x : Reached (terms_of l) (view l)). subst (λ (v : View). Reached (terms_of l) v) (sym left) (reach (terms_of l) (view l) (marking m (length c.args.page.now)) tt c.requires x)), tt),
-    )
+    let left = marked_view l m c.owed-owed.result c.turn_lots.new.lots c.turn_lots.new.used price c.owed-owed.ensures.owed c.settle_accounts.ensures c.turn_lots.ensures.lots c.cents-self.ensures.value (c.millionths-self.ensures.value ∙ rate) in record {
+      tables = ((omega (arith, l.tables.0.0), l.tables.0.1), (l.tables.1.0, omega arith), (omega (arith, l.tables.2.0), omega (arith, c.turn_lots.ensures.used, l.tables.2.0)), l.tables.3);
+      reached = ∥∥₁_map l.reached (λ (x : Reached (terms_of l) (view l)). subst (λ (v : View). Reached (terms_of l) v) (sym left) (reach (terms_of l) (view l) (marking m (length c.args.page.now)) tt c.requires x));
+    }
 
 pub returns : goal.returns
 returns c =
@@ -80,7 +80,7 @@ returns c =
     let m = c.args.marking in
     let price = of_some c.new.result c.unwrap-price.result _ _ c.new.ensures.some c.unwrap-price.ensures in
     let rate = of_some c.new-2.result c.unwrap-rate.result _ _ c.new-2.ensures.some c.unwrap-rate.ensures in
-    let left = marked_view l m c.owed-owed.result c.turn-lots.new.lots c.turn-lots.new.used price c.owed-owed.ensures.owed c.settle-accounts.ensures c.turn-lots.ensures.lots c.cents-self.ensures.value (c.millionths-self.ensures.value ∙ rate) in
+    let left = marked_view l m c.owed-owed.result c.turn_lots.new.lots c.turn_lots.new.used price c.owed-owed.ensures.owed c.settle_accounts.ensures c.turn_lots.ensures.lots c.cents-self.ensures.value (c.millionths-self.ensures.value ∙ rate) in
     let owed = front l.registered c.owed-owed.result ∙ c.owed-owed.ensures.owed in
     let p = c.unwrap-price.result.cents in
     let r = c.unwrap-rate.result.millionths in

@@ -10,10 +10,10 @@ pub returns : goal.returns
 unfolding done
 returns c =
     let l = c.args.self.now in
-    let none = passed _ c.in-ok-designation-verdict.ensures in
+    let none = passed _ c.in_ok-designation_verdict.ensures in
     record {
-      answers = c.pair-oldest.ensures.answer ∙ sym (replied (terms_of l) (view l) designating none);
-      after = c.pair-oldest.ensures.view ∙ sym (accepted (terms_of l) (view l) designating none);
-      terms = c.pair-oldest.ensures.terms;
+      answers = c.pair_oldest.ensures.answer ∙ sym (replied (terms_of l) (view l) designating none);
+      after = c.pair_oldest.ensures.view ∙ sym (accepted (terms_of l) (view l) designating none);
+      terms = c.pair_oldest.ensures.terms;
       same = λ e. absurd (false≢true (sym e));
     }

@@ -13,15 +13,15 @@ use Rattle.ledger.proofs.state.Ledger.enroll.Goals as goal
 pub bounds-self-self : goal.bounds-self-self
 bounds-self-self c = has_room c.args.self.now c.args.registration c.requires
 
-pub invariant-of-self : goal.invariant-of-self
+pub invariant_of-self : goal.invariant_of-self
 unfolding done
-invariant-of-self c =
+invariant_of-self c =
     let l = c.args.self.now in
     let r = c.args.registration in
-    let room = has_room l r c.requires in (
-      ((length-set l.accounts l.registered (new_account r) ∙ l.tables.0.0, omega arith), l.tables.1, l.tables.2, l.tables.3),
-      (∥∥₁_map l.reached (λ (x : Reached (terms_of l) (view l)). subst (λ (v : View). Reached (terms_of l) v) (sym (enrolled l r room)) (reach (terms_of l) (view l) (registering r) tt c.requires x)), tt),
-    )
+    let room = has_room l r c.requires in record {
+      tables = ((length-set l.accounts l.registered (new_account r) ∙ l.tables.0.0, omega arith), l.tables.1, l.tables.2, l.tables.3);
+      reached = ∥∥₁_map l.reached (λ (x : Reached (terms_of l) (view l)). subst (λ (v : View). Reached (terms_of l) v) (sym (enrolled l r room)) (reach (terms_of l) (view l) (registering r) tt c.requires x));
+    }
 
 pub returns : goal.returns
 returns c = record { view = enrolled c.args.self.now c.args.registration (has_room c.args.self.now c.args.registration c.requires); terms = refl }

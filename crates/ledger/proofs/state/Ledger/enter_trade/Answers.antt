@@ -15,8 +15,8 @@ use Rattle.ledger.proofs.Tables.{account_is, registers}
 use Rattle.ledger.proofs.Trading.{taken, entered}
 use Rattle.ledger.proofs.state.Ledger.enter_trade.Goals as goal
 
-pub hand-over-requires : goal.hand-over-requires
-hand-over-requires c =
+pub hand_over-requires : goal.hand_over-requires
+hand_over-requires c =
     let l = c.args.self.now in
     let t = c.args.trade in
     let ok = taken l t c.requires in
@@ -32,20 +32,20 @@ hand-over-requires c =
 pub bounds-self-self : goal.bounds-self-self
 bounds-self-self c = let ok = taken c.args.self.now c.args.trade c.requires in omega (arith, ok.room)
 
-pub invariant-of-self : goal.invariant-of-self
+pub invariant_of-self : goal.invariant_of-self
 unfolding done
-invariant-of-self c =
+invariant_of-self c =
     let l = c.args.self.now in
     let t = c.args.trade in
     let ok = taken l t c.requires in
-    let e = c.hand-over.ensures in
-    let tall : length c.hand-over.new.accounts ≡ 64 = ap length e ∙ length_numbered (traded_account t) 1 l.accounts ∙ l.tables.0.0 in (
-      ((tall, l.tables.0.1), (length-set l.sheet l.written t ∙ l.tables.1.0, omega (arith, ok.room)), l.tables.2, l.tables.3),
-      (∥∥₁_map l.reached (λ (x : Reached (terms_of l) (view l)). subst (λ (v : View). Reached (terms_of l) v) (sym (entered l t c.hand-over.new.accounts ok e)) (reach (terms_of l) (view l) (trading t) tt c.requires x)), tt),
-    )
+    let e = c.hand_over.ensures in
+    let tall : length c.hand_over.new.accounts ≡ 64 = ap length e ∙ length_numbered (traded_account t) 1 l.accounts ∙ l.tables.0.0 in record {
+      tables = ((tall, l.tables.0.1), (length-set l.sheet l.written t ∙ l.tables.1.0, omega (arith, ok.room)), l.tables.2, l.tables.3);
+      reached = ∥∥₁_map l.reached (λ (x : Reached (terms_of l) (view l)). subst (λ (v : View). Reached (terms_of l) v) (sym (entered l t c.hand_over.new.accounts ok e)) (reach (terms_of l) (view l) (trading t) tt c.requires x));
+    }
 
 pub returns : goal.returns
 returns c =
     let l = c.args.self.now in
     let t = c.args.trade in
-    record { view = entered l t c.hand-over.new.accounts (taken l t c.requires) c.hand-over.ensures; terms = refl }
+    record { view = entered l t c.hand_over.new.accounts (taken l t c.requires) c.hand_over.ensures; terms = refl }

@@ -13,12 +13,12 @@ use Rattle.ledger.proofs.Reaching.{accepted, passed, replied, wrote}
 use Rattle.ledger.proofs.state.Ledger.expire.Goals as goal
 
 pub unwrap-requires : goal.unwrap-requires
-unwrap-requires c = final_there c.args.self.now c.args.final-price _ (passed _ c.in-ok-expiry-verdict.ensures)
+unwrap-requires c = final_there c.args.self.now c.args.final_price _ (passed _ c.in_ok-expiry_verdict.ensures)
 
-pub expire-at-requires : goal.expire-at-requires
-expire-at-requires c =
+pub expire_at-requires : goal.expire_at-requires
+expire_at-requires c =
     let l = c.args.self.now in
-    ap (λ o. verdict (terms_of l) (view l) (expiring (cents_of o) (length c.args.page.now))) (sym c.unwrap.ensures) ∙ passed _ c.in-ok-expiry-verdict.ensures
+    ap (λ o. verdict (terms_of l) (view l) (expiring (cents_of o) (length c.args.page.now))) (sym c.unwrap.ensures) ∙ passed _ c.in_ok-expiry_verdict.ensures
 
 pub returns : goal.returns
 unfolding done
@@ -28,11 +28,11 @@ returns c =
     let there = c.unwrap.ensures in
     let e = expiring (Some c.unwrap.result.cents) rows in
     let same = ap (λ o. expiring (cents_of o) rows) (sym there) in
-    let none : verdict (terms_of l) (view l) e ≡ None = ap (verdict (terms_of l) (view l)) same ∙ passed _ c.in-ok-expiry-verdict.ensures in
+    let none : verdict (terms_of l) (view l) e ≡ None = ap (verdict (terms_of l) (view l)) same ∙ passed _ c.in_ok-expiry_verdict.ensures in
     record {
-      answers = ap Paid c.expire-at.ensures.sums ∙ sym (replied (terms_of l) (view l) e none) ∙ ap (reply (terms_of l) (view l)) same;
-      after = c.expire-at.ensures.view ∙ sym (accepted (terms_of l) (view l) e none) ∙ ap (after (terms_of l) (view l)) same;
-      terms = c.expire-at.ensures.terms;
-      page = c.expire-at.ensures.page ∙ ap (λ xs. over xs c.args.page.now) (sym (wrote (terms_of l) (view l) e none) ∙ ap (written (terms_of l) (view l)) same);
+      answers = ap Paid c.expire_at.ensures.sums ∙ sym (replied (terms_of l) (view l) e none) ∙ ap (reply (terms_of l) (view l)) same;
+      after = c.expire_at.ensures.view ∙ sym (accepted (terms_of l) (view l) e none) ∙ ap (after (terms_of l) (view l)) same;
+      terms = c.expire_at.ensures.terms;
+      page = c.expire_at.ensures.page ∙ ap (λ xs. over xs c.args.page.now) (sym (wrote (terms_of l) (view l) e none) ∙ ap (written (terms_of l) (view l)) same);
       same = λ h. absurd (false≢true (sym h));
     }

@@ -33,8 +33,8 @@ pay-sums-requires c =
       page = (expiry_met l c.args.price.cents _ c.requires).room;
     }
 
-pub settle-accounts-requires : goal.settle-accounts-requires
-settle-accounts-requires c =
+pub settle_accounts-requires : goal.settle_accounts-requires
+settle_accounts-requires c =
     let l = c.args.self.now in
     let owed = c.owed-owed.ensures in
     let cut = front l.registered c.owed-owed.result in
@@ -45,15 +45,15 @@ settle-accounts-requires c =
       owed = subst (All OwedIn) (sym cut) owed.within;
     }
 
-pub invariant-of-self : goal.invariant-of-self
+pub invariant_of-self : goal.invariant_of-self
 unfolding done
-invariant-of-self c =
+invariant_of-self c =
     let l = c.args.self.now in
     let p = c.args.price.cents in
-    let left = expired_view l p c.owed-owed.result l.lots c.owed-owed.ensures.owed c.settle-accounts.ensures c.clear.ensures.after in (
-      ((omega (arith, l.tables.0.0), l.tables.0.1), l.tables.1, (l.tables.2.0, omega (arith, c.clear.ensures.after)), l.tables.3),
-      (∥∥₁_map l.reached (λ (x : Reached (terms_of l) (view l)). subst (λ (v : View). Reached (terms_of l) v) (sym left) (reach (terms_of l) (view l) (expiring (Some p) (length c.args.page.now)) (price_is p c.args.price.within) c.requires x)), tt),
-    )
+    let left = expired_view l p c.owed-owed.result l.lots c.owed-owed.ensures.owed c.settle_accounts.ensures c.clear.ensures.after in record {
+      tables = ((omega (arith, l.tables.0.0), l.tables.0.1), l.tables.1, (l.tables.2.0, omega (arith, c.clear.ensures.after)), l.tables.3);
+      reached = ∥∥₁_map l.reached (λ (x : Reached (terms_of l) (view l)). subst (λ (v : View). Reached (terms_of l) v) (sym left) (reach (terms_of l) (view l) (expiring (Some p) (length c.args.page.now)) (price_is p c.args.price.within) c.requires x));
+    }
 
 pub returns : goal.returns
 returns c =
@@ -64,7 +64,7 @@ returns c =
     let rate : r ≡ l.rate = of_some c.new.result c.unwrap-rate.result _ _ c.new.ensures.some c.unwrap-rate.ensures ∙ c.from.ensures in
     let paid = λ (j : ℕ). page (terms_of l) j (by_expiry (terms_of l) (view l) p) (roll (view l)) in
     record {
-      view = expired_view l p c.owed-owed.result l.lots c.owed-owed.ensures.owed c.settle-accounts.ensures c.clear.ensures.after;
+      view = expired_view l p c.owed-owed.result l.lots c.owed-owed.ensures.owed c.settle_accounts.ensures c.clear.ensures.after;
       terms = refl;
       page = c.pay-sums.ensures.page ∙ ap (λ rows. over rows c.args.page.now) (page_rows l Expiry p owed r ∙ ap (λ (j : ℕ). (paid j).rows) rate);
       sums = c.pay-sums.ensures.sums ∙ page_sums l Expiry p owed r ∙ ap (λ (j : ℕ). (paid j).totals) rate;

@@ -8,19 +8,19 @@ use Rattle.ledger.specs.Told.{over}
 use Rattle.ledger.proofs.Reaching.{accepted, passed, replied, wrote}
 use Rattle.ledger.proofs.state.Ledger.mark.Goals as goal
 
-pub close-session-requires : goal.close-session-requires
-close-session-requires c = passed _ c.in-ok-mark-verdict.ensures
+pub close_session-requires : goal.close_session-requires
+close_session-requires c = passed _ c.in_ok-mark_verdict.ensures
 
 pub returns : goal.returns
 unfolding done
 returns c =
     let l = c.args.self.now in
     let e = marking c.args.marking (length c.args.page.now) in
-    let none = passed _ c.in-ok-mark-verdict.ensures in
+    let none = passed _ c.in_ok-mark_verdict.ensures in
     record {
-      answers = ap Paid c.close-session.ensures.sums ∙ sym (replied (terms_of l) (view l) e none);
-      after = c.close-session.ensures.view ∙ sym (accepted (terms_of l) (view l) e none);
-      terms = c.close-session.ensures.terms;
-      page = c.close-session.ensures.page ∙ ap (λ rows. over rows c.args.page.now) (sym (wrote (terms_of l) (view l) e none));
+      answers = ap Paid c.close_session.ensures.sums ∙ sym (replied (terms_of l) (view l) e none);
+      after = c.close_session.ensures.view ∙ sym (accepted (terms_of l) (view l) e none);
+      terms = c.close_session.ensures.terms;
+      page = c.close_session.ensures.page ∙ ap (λ rows. over rows c.args.page.now) (sym (wrote (terms_of l) (view l) e none));
       same = λ h. absurd (false≢true (sym h));
     }

@@ -12,8 +12,8 @@ use Rattle.ledger.proofs.Enrolling.{registered_is}
 use Rattle.ledger.proofs.Standing.{contracts_in, dealt, owed_fits, price_in, sheet_traded, size_in}
 use Rattle.ledger.proofs.state.Ledger.owed.Goals as goal
 
-pub owed-to-all-requires : goal.owed-to-all-requires
-owed-to-all-requires c =
+pub owed_to_all-requires : goal.owed_to_all-requires
+owed_to_all-requires c =
     let l = c.args.self.now in
     let xs = c.accounts.ensures in
     let ts = c.sheet.ensures in
@@ -31,9 +31,9 @@ owed-to-all-requires c =
 pub returns : goal.returns
 returns c =
     let l = c.args.self.now in
-    let is = owed_is l c.args.settling c.args.price.cents c.owed-to-all.result c.accounts.ensures c.sheet.ensures c.from.ensures (c.from-2.ensures ∙ c.cents.ensures.value) c.owed-to-all.ensures.owed in
+    let is = owed_is l c.args.settling c.args.price.cents c.owed_to_all.result c.accounts.ensures c.sheet.ensures c.from.ensures (c.from-2.ensures ∙ c.cents.ensures.value) c.owed_to_all.ensures.owed in
     record {
-      long = c.owed-to-all.ensures.long;
+      long = c.owed_to_all.ensures.long;
       owed = is;
       within = subst (All OwedIn) (sym is) (owed_fits l c.args.settling c.args.price.cents (price_is _ c.args.price.within));
     }

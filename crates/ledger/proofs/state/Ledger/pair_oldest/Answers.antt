@@ -35,17 +35,17 @@ deliver-requires c =
       few = p.few;
     }
 
-pub invariant-of-self : goal.invariant-of-self
+pub invariant_of-self : goal.invariant_of-self
 unfolding done
-invariant-of-self c =
+invariant_of-self c =
     let l = c.args.self.now in
     let n = c.unwrap-notice.result in
     let lot = c.unwrap-lot.result in
     let tall : length c.deliver.new.accounts ≡ 64 = ap length c.deliver.ensures ∙ length_numbered (designated_account n lot) 1 l.accounts ∙ l.tables.0.0 in
-    let e = paired_off l n lot c.paired-contracts.result c.deliver.new.accounts _ _ (sym c.oldest.ensures ∙ c.unwrap-notice.ensures) (sym c.oldest-2.ensures ∙ c.unwrap-lot.ensures) c.paired-contracts.ensures c.deliver.ensures c.take-oldest-2.ensures.after c.take-oldest.ensures.after in (
-      ((tall, l.tables.0.1), l.tables.1, (omega (arith, l.tables.2.0), omega (arith, c.take-oldest-2.ensures.within.0, l.tables.2.1)), (omega (arith, l.tables.3.0), omega (arith, c.take-oldest.ensures.within.0, l.tables.3.1))),
-      (∥∥₁_map l.reached (λ (x : Reached (terms_of l) (view l)). subst (λ (v : View). Reached (terms_of l) v) (sym e) (reach (terms_of l) (view l) designating tt c.requires x)), tt),
-    )
+    let e = paired_off l n lot c.paired-contracts.result c.deliver.new.accounts _ _ (sym c.oldest.ensures ∙ c.unwrap-notice.ensures) (sym c.oldest-2.ensures ∙ c.unwrap-lot.ensures) c.paired-contracts.ensures c.deliver.ensures c.take_oldest-2.ensures.after c.take_oldest.ensures.after in record {
+      tables = ((tall, l.tables.0.1), l.tables.1, (omega (arith, l.tables.2.0), omega (arith, c.take_oldest-2.ensures.within.0, l.tables.2.1)), (omega (arith, l.tables.3.0), omega (arith, c.take_oldest.ensures.within.0, l.tables.3.1)));
+      reached = ∥∥₁_map l.reached (λ (x : Reached (terms_of l) (view l)). subst (λ (v : View). Reached (terms_of l) v) (sym e) (reach (terms_of l) (view l) designating tt c.requires x));
+    }
 
 pub returns : goal.returns
 returns c =
@@ -56,6 +56,6 @@ returns c =
     let el = sym c.oldest-2.ensures ∙ c.unwrap-lot.ensures in
     record {
       answer = oldest_answer (view l) n lot c.paired-contracts.result (view l).notices (view l).lots en el c.paired-contracts.ensures;
-      view = paired_off l n lot c.paired-contracts.result c.deliver.new.accounts _ _ en el c.paired-contracts.ensures c.deliver.ensures c.take-oldest-2.ensures.after c.take-oldest.ensures.after;
+      view = paired_off l n lot c.paired-contracts.result c.deliver.new.accounts _ _ en el c.paired-contracts.ensures c.deliver.ensures c.take_oldest-2.ensures.after c.take_oldest.ensures.after;
       terms = refl;
     }

@@ -14,7 +14,7 @@ unfolding done
 returns c =
     let l = c.args.self.now in
     let r = c.args.registration in
-    let none = passed _ c.in-ok-register-verdict.ensures in
+    let none = passed _ c.in_ok-register_verdict.ensures in
     let number : c.enroll.new.self.registered ≡ length (view l).accounts + 1 =
     sym (registered_is c.enroll.new.self) ∙ ap (λ v. length v.accounts) c.enroll.ensures.view ∙ length-append (view l).accounts (new_account r ∷ []) in
     record {

@@ -11,10 +11,10 @@ unfolding done
 returns c =
     let l = c.args.self.now in
     let t = c.args.trade in
-    let none = passed _ c.in-ok-trade-verdict.ensures in
+    let none = passed _ c.in_ok-trade_verdict.ensures in
     record {
       answers = sym (replied (terms_of l) (view l) (trading t) none);
-      after = c.enter-trade.ensures.view ∙ sym (accepted (terms_of l) (view l) (trading t) none);
-      terms = c.enter-trade.ensures.terms;
+      after = c.enter_trade.ensures.view ∙ sym (accepted (terms_of l) (view l) (trading t) none);
+      terms = c.enter_trade.ensures.terms;
       same = λ e. absurd (false≢true (sym e));
     }

@@ -3,4 +3,4 @@ use Rattle.ledger.proofs.state.Ledger.under_notice.Goals as goal
 
 pub returns : goal.returns
 unfolding under_notice
-returns c = c.held-by.ensures
+returns c = c.held_by.ensures

@@ -2,10 +2,10 @@ use Rattle.std.proofs.Common.{rules}
 use Rattle.tally.specs.Questions.{is_buildable}
 use Rattle.ledger.proofs.state.opening.is_buildable.Goals as goal
 
-pub returns-then-terms-le-MAX-SESSIONS : goal.returns-then-terms-le-MAX-SESSIONS
+pub returns-then-terms-le-MAX_SESSIONS : goal.returns-then-terms-le-MAX_SESSIONS
 unfolding is_buildable
-returns-then-terms-le-MAX-SESSIONS c = search rules
+returns-then-terms-le-MAX_SESSIONS c = search rules
 
-pub returns-else-terms-le-MAX-SESSIONS : goal.returns-else-terms-le-MAX-SESSIONS
+pub returns-else-terms-le-MAX_SESSIONS : goal.returns-else-terms-le-MAX_SESSIONS
 unfolding is_buildable
-returns-else-terms-le-MAX-SESSIONS c = search rules
+returns-else-terms-le-MAX_SESSIONS c = search rules

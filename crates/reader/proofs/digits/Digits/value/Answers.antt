@@ -9,11 +9,11 @@ returns-then-self-gt-LONGEST c = record { value = sym (too_long _ c.if-self-gt-L
 pub returns-then-b-lt48 : goal.returns-then-b-lt48
 returns-then-b-lt48 c = record { value = sym (no_digit c.args.self.now.bytes.now c.loop-b.b-index c.loop-b-test.true (grind (arith, nat_tests)) c.loop-b.invariant.0) }
 
-pub overflow-mul-n : goal.overflow-mul-n
-overflow-mul-n c = omega (arith, room c.loop-b.b-index c.loop-b.n c.loop-b.invariant.2 (omega arith))
+pub overflow_mul-n : goal.overflow_mul-n
+overflow_mul-n c = omega (arith, room c.loop-b.b-index c.loop-b.n c.loop-b.invariant.2 (omega arith))
 
-pub overflow-add-n : goal.overflow-add-n
-overflow-add-n c = omega (arith, room c.loop-b.b-index c.loop-b.n c.loop-b.invariant.2 (omega arith))
+pub overflow_add-n : goal.overflow_add-n
+overflow_add-n c = omega (arith, room c.loop-b.b-index c.loop-b.n c.loop-b.invariant.2 (omega arith))
 
 pub loop-b-preserved : goal.loop-b-preserved
 loop-b-preserved c =
