@@ -12,8 +12,8 @@ use ledger::state::{BookTerms, Ledger};
 impl<K: Contract> Book<K> {
     // Builds a book with sessions up to the last and a notice window; refused, it hands the kind back.
     pub fn build(kind: K, last: u64, opens: u64, closes: u64) -> Result<Book<K>, Unbuilt<K>>
-        ensures test { is_ok result ≡ is_buildable (terms_on means kind last opens closes) }
-        ensures cases { MatchResult result (λ b. stand b ≡ built means kind last opens closes) (λ u. (u.kind ≡ kind) × (u.refusal ≡ Unbuildable)) }
+        ensures test { is_ok result ≡ is_buildable (terms_on K.Contract.means kind last opens closes) }
+        ensures cases { MatchResult result (λ b. stand b ≡ built K.Contract.means kind last opens closes) (λ u. (u.kind ≡ kind) × (u.refusal ≡ Unbuildable)) }
     {
         let terms = BookTerms {
             size: kind.contract_size(),

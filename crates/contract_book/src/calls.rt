@@ -17,8 +17,8 @@ use tally::rows::{Designation, PageRow, Sums, Trade};
 
 // Hands a quotation to the kind.
 fn offer<K: Contract>(kind: &mut K, quotation: Quotation) -> Result<(), KindFault>
-    ensures answer { result ≡ means.reply kind.old quotation }
-    ensures after { kind.new ≡ means.after kind.old quotation }
+    ensures answer { result ≡ K.Contract.means.reply kind.old quotation }
+    ensures after { kind.new ≡ K.Contract.means.after kind.old quotation }
 {
     kind.quote(quotation)
 }
@@ -26,9 +26,9 @@ fn offer<K: Contract>(kind: &mut K, quotation: Quotation) -> Result<(), KindFaul
 impl<K: Contract> Book<K> {
     // Registers an account, and answers its number.
     pub fn register(&mut self, registration: Registration) -> Result<usize, Refusal>
-        ensures answers { told Numbered result ≡ answer_to means (stand self.old) (asked (call.Register registration) 0) }
-        ensures leads { stand self.new ≡ next means (stand self.old) (asked (call.Register registration) 0) }
-        ensures history { (s : Stand K) (h : List Request) → stand self.old ≡ stands means s h → stand self.new ≡ stands means s (h ++ (asked (call.Register registration) 0) ∷ []) }
+        ensures answers { told Numbered result ≡ answer_to K.Contract.means (stand self.old) (asked (call.Register registration) 0) }
+        ensures leads { stand self.new ≡ next K.Contract.means (stand self.old) (asked (call.Register registration) 0) }
+        ensures history { (s : Stand K) (h : List Request) → stand self.old ≡ stands K.Contract.means s h → stand self.new ≡ stands K.Contract.means s (h ++ (asked (call.Register registration) 0) ∷ []) }
         ensures same { is_ok result ≡ false → self.new ≡ self.old }
     {
         self.ledger.register(registration)
@@ -36,9 +36,9 @@ impl<K: Contract> Book<K> {
 
     // Takes a trade onto the open session's sheet.
     pub fn trade(&mut self, trade: Trade) -> Result<(), Refusal>
-        ensures answers { told plainly result ≡ answer_to means (stand self.old) (asked (call.Trade trade) 0) }
-        ensures leads { stand self.new ≡ next means (stand self.old) (asked (call.Trade trade) 0) }
-        ensures history { (s : Stand K) (h : List Request) → stand self.old ≡ stands means s h → stand self.new ≡ stands means s (h ++ (asked (call.Trade trade) 0) ∷ []) }
+        ensures answers { told plainly result ≡ answer_to K.Contract.means (stand self.old) (asked (call.Trade trade) 0) }
+        ensures leads { stand self.new ≡ next K.Contract.means (stand self.old) (asked (call.Trade trade) 0) }
+        ensures history { (s : Stand K) (h : List Request) → stand self.old ≡ stands K.Contract.means s h → stand self.new ≡ stands K.Contract.means s (h ++ (asked (call.Trade trade) 0) ∷ []) }
         ensures same { is_ok result ≡ false → self.new ≡ self.old }
     {
         self.ledger.trade(trade)
@@ -46,9 +46,9 @@ impl<K: Contract> Book<K> {
 
     // Hands a quotation within the ranges to the kind.
     pub fn quote(&mut self, quotation: Quotation) -> Result<(), Refusal>
-        ensures answers { told plainly result ≡ answer_to means (stand self.old) (asked (call.Quote quotation) 0) }
-        ensures leads { stand self.new ≡ next means (stand self.old) (asked (call.Quote quotation) 0) }
-        ensures history { (s : Stand K) (h : List Request) → stand self.old ≡ stands means s h → stand self.new ≡ stands means s (h ++ (asked (call.Quote quotation) 0) ∷ []) }
+        ensures answers { told plainly result ≡ answer_to K.Contract.means (stand self.old) (asked (call.Quote quotation) 0) }
+        ensures leads { stand self.new ≡ next K.Contract.means (stand self.old) (asked (call.Quote quotation) 0) }
+        ensures history { (s : Stand K) (h : List Request) → stand self.old ≡ stands K.Contract.means s h → stand self.new ≡ stands K.Contract.means s (h ++ (asked (call.Quote quotation) 0) ∷ []) }
         ensures same { is_ok result ≡ false → self.new ≡ self.old }
     {
         if Price::new(quotation.price).is_none() {
@@ -65,9 +65,9 @@ impl<K: Contract> Book<K> {
 
     // Takes a seller's notice of delivery.
     pub fn notify(&mut self, notification: Notification) -> Result<(), Refusal>
-        ensures answers { told plainly result ≡ answer_to means (stand self.old) (asked (call.Notify notification) 0) }
-        ensures leads { stand self.new ≡ next means (stand self.old) (asked (call.Notify notification) 0) }
-        ensures history { (s : Stand K) (h : List Request) → stand self.old ≡ stands means s h → stand self.new ≡ stands means s (h ++ (asked (call.Notify notification) 0) ∷ []) }
+        ensures answers { told plainly result ≡ answer_to K.Contract.means (stand self.old) (asked (call.Notify notification) 0) }
+        ensures leads { stand self.new ≡ next K.Contract.means (stand self.old) (asked (call.Notify notification) 0) }
+        ensures history { (s : Stand K) (h : List Request) → stand self.old ≡ stands K.Contract.means s h → stand self.new ≡ stands K.Contract.means s (h ++ (asked (call.Notify notification) 0) ∷ []) }
         ensures same { is_ok result ≡ false → self.new ≡ self.old }
     {
         self.ledger.notify(notification)
@@ -75,9 +75,9 @@ impl<K: Contract> Book<K> {
 
     // Pairs the oldest due notice with the oldest lot.
     pub fn designate(&mut self) -> Result<Designation, Refusal>
-        ensures answers { told Designated result ≡ answer_to means (stand self.old) (asked call.Designate 0) }
-        ensures leads { stand self.new ≡ next means (stand self.old) (asked call.Designate 0) }
-        ensures history { (s : Stand K) (h : List Request) → stand self.old ≡ stands means s h → stand self.new ≡ stands means s (h ++ (asked call.Designate 0) ∷ []) }
+        ensures answers { told Designated result ≡ answer_to K.Contract.means (stand self.old) (asked call.Designate 0) }
+        ensures leads { stand self.new ≡ next K.Contract.means (stand self.old) (asked call.Designate 0) }
+        ensures history { (s : Stand K) (h : List Request) → stand self.old ≡ stands K.Contract.means s h → stand self.new ≡ stands K.Contract.means s (h ++ (asked call.Designate 0) ∷ []) }
         ensures same { is_ok result ≡ false → self.new ≡ self.old }
     {
         self.ledger.designate()
@@ -85,10 +85,10 @@ impl<K: Contract> Book<K> {
 
     // Marks the open session: pays each account into its row of the page, and says what the page comes to.
     pub fn mark(&mut self, marking: Marking, page: &mut [PageRow]) -> Result<Sums, Refusal>
-        ensures answers { told Paid result ≡ answer_to means (stand self.old) (asked (call.Mark marking) (length page.old)) }
-        ensures leads { stand self.new ≡ next means (stand self.old) (asked (call.Mark marking) (length page.old)) }
-        ensures history { (s : Stand K) (h : List Request) → stand self.old ≡ stands means s h → stand self.new ≡ stands means s (h ++ (asked (call.Mark marking) (length page.old)) ∷ []) }
-        ensures page { page.new ≡ over (rows_to means (stand self.old) (asked (call.Mark marking) (length page.old))) page.old }
+        ensures answers { told Paid result ≡ answer_to K.Contract.means (stand self.old) (asked (call.Mark marking) (length page.old)) }
+        ensures leads { stand self.new ≡ next K.Contract.means (stand self.old) (asked (call.Mark marking) (length page.old)) }
+        ensures history { (s : Stand K) (h : List Request) → stand self.old ≡ stands K.Contract.means s h → stand self.new ≡ stands K.Contract.means s (h ++ (asked (call.Mark marking) (length page.old)) ∷ []) }
+        ensures page { page.new ≡ over (rows_to K.Contract.means (stand self.old) (asked (call.Mark marking) (length page.old))) page.old }
         ensures same { is_ok result ≡ false → self.new ≡ self.old }
     {
         self.ledger.mark(marking, page)
@@ -96,10 +96,10 @@ impl<K: Contract> Book<K> {
 
     // Expires the contract at the kind's final price, where there is one.
     pub fn expire(&mut self, page: &mut [PageRow]) -> Result<Sums, Refusal>
-        ensures answers { told Paid result ≡ answer_to means (stand self.old) (asked call.Expire (length page.old)) }
-        ensures leads { stand self.new ≡ next means (stand self.old) (asked call.Expire (length page.old)) }
-        ensures history { (s : Stand K) (h : List Request) → stand self.old ≡ stands means s h → stand self.new ≡ stands means s (h ++ (asked call.Expire (length page.old)) ∷ []) }
-        ensures page { page.new ≡ over (rows_to means (stand self.old) (asked call.Expire (length page.old))) page.old }
+        ensures answers { told Paid result ≡ answer_to K.Contract.means (stand self.old) (asked call.Expire (length page.old)) }
+        ensures leads { stand self.new ≡ next K.Contract.means (stand self.old) (asked call.Expire (length page.old)) }
+        ensures history { (s : Stand K) (h : List Request) → stand self.old ≡ stands K.Contract.means s h → stand self.new ≡ stands K.Contract.means s (h ++ (asked call.Expire (length page.old)) ∷ []) }
+        ensures page { page.new ≡ over (rows_to K.Contract.means (stand self.old) (asked call.Expire (length page.old))) page.old }
         ensures same { is_ok result ≡ false → self.new ≡ self.old }
     {
         self.ledger.expire(self.kind.final_price(), page)

@@ -7,8 +7,8 @@ use kinds::contract::Contract;
 
 // A book is built on its kind's terms, and every call keeps them so.
 pub fn terms_stay<K: Contract>() -> u8
-    ensures built { (k : K) (last opens closes : ℕ) → OnKind means (built means k last opens closes) }
-    ensures kept { (s : Stand K) (r : Request) → OnKind means s → OnKind means (next means s r) }
+    ensures built { (k : K) (last opens closes : ℕ) → OnKind K.Contract.means (built K.Contract.means k last opens closes) }
+    ensures kept { (s : Stand K) (r : Request) → OnKind K.Contract.means s → OnKind K.Contract.means (next K.Contract.means s r) }
 {
     0
 }

@@ -105,7 +105,7 @@ impl<K: Contract> Book<K> {
         ensures rate { result.rate ≡ (stand self.now).view.rate }
         ensures expired { result.expired ≡ (stand self.now).view.expired }
         ensures law { ∥ Stated (stand self.now).terms (stand self.now).view ∥₁ }
-        ensures kind { OnKind means (stand self.now) → ∥ Stated (terms_on means (stand self.now).kind (stand self.now).terms.last (stand self.now).terms.opens (stand self.now).terms.closes) (stand self.now).view ∥₁ }
+        ensures kind { OnKind K.Contract.means (stand self.now) → ∥ Stated (terms_on K.Contract.means (stand self.now).kind (stand self.now).terms.last (stand self.now).terms.opens (stand self.now).terms.closes) (stand self.now).view ∥₁ }
     {
         Statement {
             accounts: self.accounts(),

@@ -50,9 +50,9 @@ fn page_rows(answer: Answer, accounts: usize) -> usize
 impl<K: Contract> Book<K> {
     // Any call: its answer, and its page at the top of the rows handed in.
     pub fn apply(&mut self, call: Call, page: &mut [PageRow]) -> Answer
-        ensures answers { result ≡ answer_to means (stand self.old) (asked call (length page.old)) }
-        ensures leads { stand self.new ≡ next means (stand self.old) (asked call (length page.old)) }
-        ensures page { page.new ≡ over (rows_to means (stand self.old) (asked call (length page.old))) page.old }
+        ensures answers { result ≡ answer_to K.Contract.means (stand self.old) (asked call (length page.old)) }
+        ensures leads { stand self.new ≡ next K.Contract.means (stand self.old) (asked call (length page.old)) }
+        ensures page { page.new ≡ over (rows_to K.Contract.means (stand self.old) (asked call (length page.old))) page.old }
         ensures same { is_accepted result ≡ false → self.new ≡ self.old }
     {
         match call {
@@ -68,10 +68,10 @@ impl<K: Contract> Book<K> {
 
     // Any call, with how many rows its page has.
     fn serve(&mut self, call: Call, page: &mut [PageRow]) -> Served
-        ensures answers { result.answer ≡ answer_to means (stand self.old) (asked call (length page.old)) }
-        ensures leads { stand self.new ≡ next means (stand self.old) (asked call (length page.old)) }
-        ensures page { page.new ≡ over (rows_to means (stand self.old) (asked call (length page.old))) page.old }
-        ensures rows { result.rows ≡ length (rows_to means (stand self.old) (asked call (length page.old))) }
+        ensures answers { result.answer ≡ answer_to K.Contract.means (stand self.old) (asked call (length page.old)) }
+        ensures leads { stand self.new ≡ next K.Contract.means (stand self.old) (asked call (length page.old)) }
+        ensures page { page.new ≡ over (rows_to K.Contract.means (stand self.old) (asked call (length page.old))) page.old }
+        ensures rows { result.rows ≡ length (rows_to K.Contract.means (stand self.old) (asked call (length page.old))) }
         ensures inside { result.rows ≤ length page.old }
     {
         let accounts = self.ledger.accounts().len();
@@ -82,7 +82,7 @@ impl<K: Contract> Book<K> {
 
     // Sends calls one after the other, as many as the log has places for; their pages share the rows handed in.
     pub fn send(&mut self, calls: &[Call], log: &mut [Answer], pages: &mut [PageRow]) -> Sending
-        ensures history { (s : Stand K) (h : List Request) → stand self.old ≡ stands means s h → Sent means s (stand self.old) h calls.now log.old log.new pages.old pages.new (stand self.new) result.calls result.rows }
+        ensures history { (s : Stand K) (h : List Request) → stand self.old ≡ stands K.Contract.means s h → Sent K.Contract.means s (stand self.old) h calls.now log.old log.new pages.old pages.new (stand self.new) result.calls result.rows }
     {
         let count = calls.len().min(log.len());
         let mut rows = 0;
@@ -104,8 +104,8 @@ impl<K: Contract> Book<K> {
         log: &mut [Answer],
         pages: &mut [PageRow],
     ) -> Result<Finished<K>, Unbuilt<K>>
-        ensures test { is_ok result ≡ is_buildable (terms_on means kind last opens closes) }
-        ensures law { MatchResult result (λ x. Ran means kind last opens closes calls.now log.old log.new pages.old pages.new (stand x.book) x.sending.calls x.sending.rows) (λ u. (u.kind ≡ kind) × (u.refusal ≡ Unbuildable) × (log.new ≡ log.old) × (pages.new ≡ pages.old)) }
+        ensures test { is_ok result ≡ is_buildable (terms_on K.Contract.means kind last opens closes) }
+        ensures law { MatchResult result (λ x. Ran K.Contract.means kind last opens closes calls.now log.old log.new pages.old pages.new (stand x.book) x.sending.calls x.sending.rows) (λ u. (u.kind ≡ kind) × (u.refusal ≡ Unbuildable) × (log.new ≡ log.old) × (pages.new ≡ pages.old)) }
     {
         let mut book = Book::build(kind, last, opens, closes)?;
         let sending = book.send(calls, log, pages);

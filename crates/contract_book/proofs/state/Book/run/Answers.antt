@@ -11,7 +11,7 @@ returns g c =
     let m = g.K.Contract.means in
     let a = c.args in
     let test : true ≡ is_buildable (terms_on m a.kind a.last a.opens a.closes) = search rules in
-    let start : stand c.in-ok-book.book ≡ built m a.kind a.last a.opens a.closes = search rules in
+    let start : stand c.in_ok-book.book ≡ built m a.kind a.last a.opens a.closes = search rules in
     record {
       test = test;
       law = ran m a.kind a.last a.opens a.closes a.calls.now a.log.now _ a.pages.now _ _ _ _ _ (sym test) start

@@ -10,7 +10,7 @@ returns g c =
     let s = stand c.args.self.now in
     let room = length c.args.page.now in
     let e = met m s (asked c.args.call room) in
-    let counted = rows_are s.terms s.view e c.apply-answer.result c.accounts-accounts.result.now c.page-rows-rows.result c.apply-answer.ensures.answers c.accounts-accounts.ensures c.page-rows-rows.ensures in
+    let counted = rows_are s.terms s.view e c.apply-answer.result c.accounts-accounts.result.now c.page_rows-rows.result c.apply-answer.ensures.answers c.accounts-accounts.ensures c.page_rows-rows.ensures in
     record {
       answers = c.apply-answer.ensures.answers;
       leads = c.apply-answer.ensures.leads;
