@@ -202,4 +202,4 @@ pub same_run : {K : Type 0} (m : Meaning K) (k : K) (last opens closes room : â„
 unfolding numbered
 same_run m k last opens closes room xs built enough =
     let c = terms_on m k last opens closes in
-    same_from m c (record { built = built; sized = m.sized k; ticked = m.ticked k }) begun (sound_begun c) room (record { few = omega arith; left = omega arith }) k xs
+    same_from m c (record { built = built; sized = m.sized k }) begun (sound_begun c) room (record { few = omega arith; left = omega arith }) k xs

@@ -1,12 +1,12 @@
 // The lines that a call prints.
 use crate::books::Unmade;
-use std::fmt;
+use std::alloc::AllocError;
 use std::fmt::Write;
 use tally::call::Answer;
 use tally::refusal::Refusal;
 use tally::rows::{Designation, PageRow, Sums};
 
-fn tell_designation(designation: Designation, out: &mut String) -> fmt::Result {
+fn tell_designation(designation: Designation, out: &mut String) -> Result<(), AllocError> {
     let Designation {
         buyer,
         seller,
@@ -16,7 +16,7 @@ fn tell_designation(designation: Designation, out: &mut String) -> fmt::Result {
     writeln!(out, "ok {buyer} {seller} {contracts} {price}")
 }
 
-fn tell_sums(sums: Sums, out: &mut String) -> fmt::Result {
+fn tell_sums(sums: Sums, out: &mut String) -> Result<(), AllocError> {
     let Sums {
         reais,
         dollars,
@@ -26,13 +26,13 @@ fn tell_sums(sums: Sums, out: &mut String) -> fmt::Result {
     writeln!(out, "ok {reais} {dollars} {remainder} {lines}")
 }
 
-fn tell_refusal(refusal: Refusal, out: &mut String) -> fmt::Result {
+fn tell_refusal(refusal: Refusal, out: &mut String) -> Result<(), AllocError> {
     let number = refusal.number();
     writeln!(out, "no {number}")
 }
 
 // Why no book was built.
-pub fn tell_unmade(unmade: Unmade, out: &mut String) -> fmt::Result {
+pub fn tell_unmade(unmade: Unmade, out: &mut String) -> Result<(), AllocError> {
     match unmade {
         Unmade::Terms => writeln!(out, "terms"),
         Unmade::Refused(refusal) => tell_refusal(refusal, out),
@@ -40,7 +40,7 @@ pub fn tell_unmade(unmade: Unmade, out: &mut String) -> fmt::Result {
 }
 
 // What a call was answered.
-pub fn tell_reply(reply: Result<Answer, Refusal>, out: &mut String) -> fmt::Result {
+pub fn tell_reply(reply: Result<Answer, Refusal>, out: &mut String) -> Result<(), AllocError> {
     match reply {
         Ok(Answer::Numbered(number)) => writeln!(out, "ok {number}"),
         Ok(Answer::Accepted) => writeln!(out, "ok"),
@@ -51,7 +51,7 @@ pub fn tell_reply(reply: Result<Answer, Refusal>, out: &mut String) -> fmt::Resu
 }
 
 // All rows of a page, paid or not.
-pub fn tell_page(page: &[PageRow], out: &mut String) -> fmt::Result {
+pub fn tell_page(page: &[PageRow], out: &mut String) -> Result<(), AllocError> {
     write!(out, "page")?;
     for row in page {
         let day_trade = row.day_trade;

@@ -11,7 +11,7 @@ const HELP: &str = "Usage: settle [FILE]
 Settles a book of coffee or cattle futures: reads records from FILE, or from
 standard input where none is named, and prints what each account is paid.
 
-  S session account day_trade margin     an account on a page
+  S session account day-trade margin     an account on a page
   T session reais dollars remainder lines    what the page comes to
   D buyer seller contracts price         a designation
   R record layer number place            a refused record
@@ -44,7 +44,7 @@ fn settle(rt: &HostRuntime, input: &[u8]) -> anyhow::Result<()> {
             rt.stdout().write_all(&text)?;
             Ok(())
         }
-        Err(shortage) => Err(shortage.message().into()),
+        Err(shortage) => Err(anyhow!(shortage.message())),
     }
 }
 

@@ -17,5 +17,5 @@ loop-came-preserved c =
 pub returns : goal.returns
 returns c =
     let inv = c.loop-came.invariant in
-    let none = c.in-default.ensures.came in
+    let none = c.in_default.ensures.came in
     record { within = omega (arith, inv.1.places); calls = gathered_all c.loop-came.calls c.loop-came.count _ inv.0 none.0 inv.1 }

@@ -7,10 +7,10 @@ pub loop-i-init : goal.loop-i-init
 loop-i-init c = put_none _ _ (search rules)
 
 pub loop-i-preserved : goal.loop-i-preserved
-loop-i-preserved c = row_more c.args.session c.args.rows.now c.loop-i.i _ _ c.args.out.now c.loop-i.out _ _ _ _ c.loop-i.invariant c.in-ok-end.ensures (search rules) (search rules) (search rules) (search rules)
+loop-i-preserved c = row_more c.args.session c.args.rows.now c.loop-i.i _ _ c.args.out.now c.loop-i.out _ _ _ _ c.loop-i.invariant c.in_ok-end.ensures (search rules) (search rules) (search rules) (search rules)
 
-pub returns-in-err-end : goal.returns-in-err-end
-returns-in-err-end c = rw c.from-residual.ensures (row_cut c.args.session c.args.rows.now c.loop-i.i _ _ c.args.out.now c.loop-i.out _ _ c.loop-i.invariant c.in-err-end.ensures (search rules) (search rules) (search rules) (search rules))
+pub returns-in_err-end : goal.returns-in_err-end
+returns-in_err-end c = rw c.from_residual.ensures (row_cut c.args.session c.args.rows.now c.loop-i.i _ _ c.args.out.now c.loop-i.out _ _ c.loop-i.invariant c.in_err-end.ensures (search rules) (search rules) (search rules) (search rules))
 
 pub returns : goal.returns
 returns c = row_all c.args.session c.args.rows.now c.loop-i.i _ _ _ _ c.loop-i.invariant (search rules)

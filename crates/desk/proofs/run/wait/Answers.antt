@@ -7,33 +7,33 @@ use Rattle.desk.proofs.run.wait.Goals as goal
 pub loop-came-init : goal.loop-came-init
 loop-came-init c = (search rules, search rules, omega arith, begun _ _ _ (omega arith))
 
-pub wait-record-requires : goal.wait-record-requires
-wait-record-requires c =
+pub wait_record-requires : goal.wait_record-requires
+wait_record-requires c =
     let same : length c.loop-came.out ≡ length c.args.out.now = search rules in
     record { within = omega (arith, c.loop-came.invariant.3.put.fits, same) }
 
-pub returns-in-err-waited : goal.returns-in-err-waited
-returns-in-err-waited c =
+pub returns-in_err-waited : goal.returns-in_err-waited
+returns-in_err-waited c =
     let inv = c.loop-came.invariant in
     let step = c.in-Some.ensures.came in
     let same : length c.loop-came.out ≡ length c.args.out.now = search rules in
     let less = fewer_left inv.0 step c.number.ensures.value inv.1 in
     record {
-      came = rw c.from-residual.ensures (let long = too_long _ _ c.wait-record.new.out _ _ _ _ _ _ inv.3 same (waited_step inv.0 step c.number.ensures.value inv.1 _ refl) c.in-err-waited.ensures.waits in omega (arith, long));
+      came = rw c.from_residual.ensures (let long = too_long _ _ c.wait_record.new.out _ _ _ _ _ _ inv.3 same (waited_step inv.0 step c.number.ensures.value inv.1 _ refl) c.in_err-waited.ensures.waits in omega (arith, long));
       same = search rules;
       fewer = omega (arith, inv.2, less);
-      opens = rw c.from-residual.ensures tt;
+      opens = rw c.from_residual.ensures tt;
     }
 
-pub returns-then-is-some : goal.returns-then-is-some
-returns-then-is-some c =
+pub returns-then-is_some : goal.returns-then-is_some
+returns-then-is_some c =
     let inv = c.loop-came.invariant in
     let step = c.in-Some.ensures.came in
     let same : length c.loop-came.out ≡ length c.args.out.now = search rules in
-    let w = c.in-ok-waited.ensures in
+    let w = c.in_ok-waited.ensures in
     let less = fewer_left inv.0 step c.number.ensures.value inv.1 in
     record {
-      came = grown _ _ _ _ _ _ _ _ _ inv.3 same _ (waited_over inv.0 step c.number.ensures.value inv.1 c.in-ok-waited.waited.opening w.waits.1 (sym c.if-is-some.ensures)) w.waits.0;
+      came = grown _ _ _ _ _ _ _ _ _ inv.3 same _ (waited_over inv.0 step c.number.ensures.value inv.1 c.in_ok-waited.waited.opening w.waits.1 (sym c.if-is_some.ensures)) w.waits.0;
       same = search rules;
       fewer = omega (arith, inv.2, less);
       opens = w.opens;
@@ -44,18 +44,18 @@ loop-came-preserved c =
     let inv = c.loop-came.invariant in
     let step = c.in-Some.ensures.came in
     let same : length c.loop-came.out ≡ length c.args.out.now = search rules in
-    let w = c.in-ok-waited.ensures in
+    let w = c.in_ok-waited.ensures in
     let less = fewer_left inv.0 step c.number.ensures.value inv.1 in (
       search rules,
       search rules,
       omega (arith, inv.2, less),
-      grown _ _ _ _ _ _ _ _ _ inv.3 same _ (waited_more inv.0 step c.number.ensures.value inv.1 c.in-ok-waited.waited.opening w.waits.1 (sym c.if-is-some.ensures)) w.waits.0,
+      grown _ _ _ _ _ _ _ _ _ inv.3 same _ (waited_more inv.0 step c.number.ensures.value inv.1 c.in_ok-waited.waited.opening w.waits.1 (sym c.if-is_some.ensures)) w.waits.0,
     )
 
 pub returns : goal.returns
 returns c =
     let inv = c.loop-came.invariant in
-    let none = c.in-default.ensures.came in
+    let none = c.in_default.ensures.came in
     record {
       came = retold _ _ _ _ _ _ _ (waited_all c.loop-came.reader.number c.loop-came.reader.at inv.0 none.0) inv.3;
       same = search rules;

@@ -16,7 +16,7 @@ returns c =
     let s = stage c.args.records c.args.start c.args.self.now in
     let some : 0 < length s.answers = search rules in
     record {
-      puts = subst (λ t. Puts c.args.out.now c.args.at t c.tell-answer.new.out c.tell-answer.result) (first_told s blank some) c.tell-answer.ensures.puts;
-      after = λ width. c.tell-answer.ensures.after width ∙ first_after s blank width some;
-      counted = c.tell-answer.ensures.counted;
+      puts = subst (λ t. Puts c.args.out.now c.args.at t c.tell_answer.new.out c.tell_answer.result) (first_told s blank some) c.tell_answer.ensures.puts;
+      after = λ width. c.tell_answer.ensures.after width ∙ first_after s blank width some;
+      counted = c.tell_answer.ensures.counted;
     }
