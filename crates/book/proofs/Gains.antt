@@ -1,6 +1,6 @@
 -- Amounts of a side by what was read of it.
-use Rattle.std.proofs.Common.{◌≡◌, ℕ, ◌+◌, ◌*◌, ◌≤◌, List, length, drop, ℤ, pos, ◌-ℤ◌, sum, sym, refl, ap, ◌∙◌, arith}
-use borrow.Author.Differences.{up, down, same_in, ints}
+use Rattle.std.proofs.Common.{◌≡◌, ℕ, ◌*◌, List, length, pos, ◌-ℤ◌, sum, ap, ◌∙◌, arith}
+use borrow.Author.Differences.{same_in, ints}
 use Rattle.tally.specs.Account.{above}
 use Rattle.tally.proofs.Positions.{above_is}
 

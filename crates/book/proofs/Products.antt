@@ -1,5 +1,5 @@
 -- The size of a product of signed numbers.
-use Rattle.std.proofs.Common.{◌≡◌, ℕ, suc, ◌*◌, ◌≤◌, ℤ, pos, negsuc, ◌*ℤ◌, nat_abs, refl, arith}
+use Rattle.std.proofs.Common.{◌≡◌, ℕ, ◌*◌, ◌≤◌, ℤ, pos, negsuc, ◌*ℤ◌, nat_abs, refl, arith}
 use borrow.Author.Differences.{ints}
 use Rattle.std.proofs.lemmas.Nat.{mul-le}
 

@@ -1,13 +1,12 @@
 -- A run goes on: a view that some run leads to leads, by an accepted call, to the next.
-use Rattle.std.proofs.Common.{◌≡◌, ℕ, ◌+◌, ◌<◌, ◌≤◌, List, [], ◌∷◌, ◌++◌, length, take, set, Some, None, Ok, Err, fold, Option, Result, sym, refl, ap, ◌∙◌, subst, arith}
-use Rattle.std.specs.List.{AllByRecursion as All}
+use Rattle.std.proofs.Common.{◌≡◌, ℕ, List, [], ◌∷◌, ◌++◌, Some, None, Ok, fold, Option, Result, sym, refl, ap, ◌∙◌, arith}
 use Rattle.std.proofs.ByRecursion.{All-append}
 use Rattle.tally.specs.declared.refusal.Refusal.{Refusal}
 use Rattle.tally.specs.Book.{Terms, View}
 use Rattle.tally.specs.Bounds.{FinalPriced}
 use Rattle.tally.specs.Events.{Event}
 use Rattle.tally.specs.Questions.{verdict}
-use Rattle.tally.specs.Runs.{after, opened, shown}
+use Rattle.tally.specs.Runs.{after, opened}
 use Rattle.tally.specs.Steps.{done}
 use Rattle.book.specs.Reached.{Reached, judged}
 

@@ -1,5 +1,5 @@
 -- How many rows a call writes.
-use Rattle.std.proofs.Common.{◌≡◌, ℕ, ◌≤◌, leb, List, [], ◌∷◌, map, length, Some, None, Option, sym, refl, ap, ◌∙◌, zero-le, arith}
+use Rattle.std.proofs.Common.{◌≡◌, ℕ, ◌≤◌, List, [], ◌∷◌, length, Some, None, Option, sym, refl, ap, ◌∙◌, zero-le, arith}
 use Rattle.std.proofs.lemmas.List.{length-map}
 use Rattle.std.proofs.lemmas.Bool.{leb-true}
 use Rattle.kinds.specs.Meaning.{Meaning}
@@ -12,7 +12,7 @@ use Rattle.tally.specs.declared.rows.Lot.{Lot}
 use Rattle.tally.specs.declared.rows.Notice.{Notice}
 use Rattle.tally.specs.declared.rows.PageRow.{PageRow}
 use Rattle.tally.specs.Book.{Terms, View}
-use Rattle.tally.specs.Events.{Event, event, registering, trading, quoting, noticing, designating, marking, expiring}
+use Rattle.tally.specs.Events.{Event, registering, trading, quoting, noticing, designating, marking, expiring}
 use Rattle.tally.specs.Pages.{Listed, Owed, page, roll, row_of, by_marking, by_expiry}
 use Rattle.tally.specs.Questions.{questions, verdict}
 use Rattle.tally.specs.Runs.{answer, designation_of, page_of, reply, rows_of, written}

@@ -1,10 +1,9 @@
 -- A quotation: what it is answered, and what it leaves.
-use Rattle.std.proofs.Common.{◌≡◌, Bool, true, false, cond, ◌&&◌, is_ok, Some, None, Option, sym, refl, ap, ◌∙◌}
+use Rattle.std.proofs.Common.{◌≡◌, true, false, is_ok, Some, None, sym, refl, ◌∙◌}
 use Rattle.std.proofs.lemmas.Bool.{false≢true}
 use Rattle.kinds.specs.declared.quotation.Quotation.{Quotation}
 use Rattle.kinds.specs.Meaning.{Meaning}
 use Rattle.kinds.specs.Quotations.{Reply, quotable}
-use Rattle.tally.specs.declared.refusal.Refusal.{Refusal}
 use Rattle.tally.specs.declared.call.Call.TheVariants.{Quote}
 use Rattle.tally.specs.Book.{Terms, View}
 use Rattle.tally.specs.Events.{quoting}

@@ -1,7 +1,6 @@
 -- The law of the book at hand.
 use Rattle.std.proofs.Common.{◌≡◌, subst}
 use mathlib.Core.Logic.{∥∥₁_map}
-use Rattle.kinds.specs.Meaning.{Meaning}
 use Rattle.tally.specs.Book.{Terms}
 use Rattle.tally.proofs.Law.{settled}
 use Rattle.ledger.specs.declared.state.Ledger.{Ledger}

@@ -4,7 +4,6 @@ use Rattle.kinds.specs.Meaning.{Meaning}
 use Rattle.tally.specs.declared.rows.PageRow.{PageRow}
 use Rattle.tally.specs.declared.call.Answer.{Answer}
 use Rattle.tally.specs.declared.call.Call.{Call}
-use Rattle.tally.specs.Book.{Terms}
 use Rattle.tally.specs.Events.{Event, Request, events, kind_then}
 use Rattle.tally.specs.Law.{Settled}
 use Rattle.tally.specs.Runs.{Entry, log, shown}

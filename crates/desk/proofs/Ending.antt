@@ -1,5 +1,5 @@
 -- The final price as a number: the right price for the quotations taken is the mean.
-use Rattle.std.proofs.Common.{◌≡◌, ℕ, ◌+◌, ◌*◌, ◌<◌, ◌≤◌, ltb, List, length, ℤ, pos, ◌-ℤ◌, nat_abs, Some, None, Option, sym, refl, ap, ◌∙◌, subst, ⊎_elim, eq-zero-or-pos, mul-zero, arith}
+use Rattle.std.proofs.Common.{◌≡◌, ℕ, ◌+◌, ◌<◌, ltb, List, length, pos, ◌-ℤ◌, nat_abs, Some, None, Option, sym, ap, ◌∙◌, subst, ⊎_elim, eq-zero-or-pos, mul-zero, arith}
 use Rattle.std.proofs.lemmas.Bool.{cond-true, cond-false, lt-ltb, le-ltb}
 use Rattle.money.proofs.Rounding.{formula, unique}
 use Rattle.money.specs.Nearest.{Nearest, nearest, nearest_size}

@@ -17,7 +17,7 @@ use Rattle.tally.specs.Runs.{log}
 use Rattle.tally.specs.declared.call.Call.{Call}
 use Rattle.tally.specs.declared.call.Call.TheVariants as call
 use Rattle.desk.specs.declared.openings.Opening.{Opening}
-use Rattle.desk.specs.Courses.{Course, course}
+use Rattle.desk.specs.Courses.{course}
 use Rattle.desk.specs.Endings.{average_price, by_rule, course_of, index_price, no_price}
 use Rattle.desk.specs.Openings.{terms_for}
 use Rattle.desk.specs.Report.{after_by, calls_in, event_by, events_by, log_by, log_text, opened_text}

@@ -1,7 +1,6 @@
 -- Which records open a book, and on which terms.
 use Rattle.std.specs.Prelude.{◌≡◌, ℕ, Bool, true, false, cond, Some, None, Ok, Err, Option, Result}
 use Rattle.kinds.specs.Tickers.{row}
-use Rattle.kinds.specs.declared.months.Ticker.{Ticker}
 use Rattle.kinds.specs.declared.tickers.Ending.{Ending}
 use Rattle.kinds.specs.declared.tickers.Ending.TheVariants.{Delivery, WeightedAverage, LastFive}
 use Rattle.reader.specs.Entries.{Entry, opening, registration, trade, quotation, notice, marking, designation, expiry}

@@ -1,7 +1,6 @@
 -- The layer, the number and the place that each fault of a record is reported under.
 use Rattle.std.specs.Prelude.{ℕ}
 use Rattle.reader.specs.Numbers.{fault_number, fault_place}
-use Rattle.reader.specs.declared.fault.ReadFault.{ReadFault}
 use Rattle.tally.specs.Refusals.{refusal_number}
 use Rattle.tally.specs.declared.refusal.Refusal.{Refusal}
 use Rattle.tally.specs.declared.refusal.Refusal.TheVariants.{Unbuildable, Closed, AccountsFull, Unidentifiable, Registered, Stranger, Unpriced, Uncounted, SheetFull, OverLimit, Uncovered, LastSession, LotsFull, Unquoted, OutsideWindow, NotShort, NoticesFull, NoneDue, NoticeDue, Unrated, PageShort, NotExpiring, NoFinalPrice}

@@ -1,5 +1,5 @@
 -- The text of a run: what was answered to each record of an open book.
-use Rattle.std.specs.Prelude.{ℕ, ◌+◌, true, List, [], ◌∷◌, ◌++◌, map, length, take, drop, Ok, Err}
+use Rattle.std.specs.Prelude.{ℕ, ◌+◌, true, List, [], ◌∷◌, ◌++◌, length, take, drop, Ok, Err}
 use Rattle.reader.specs.Readings.{reading}
 use Rattle.tally.specs.declared.call.Answer.{Answer}
 use Rattle.tally.specs.declared.call.Answer.TheVariants.{Refused, Numbered, Accepted, Designated, Paid}

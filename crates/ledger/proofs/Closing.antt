@@ -1,5 +1,5 @@
 -- A page of a ledger as the rules have it, and what a marking and an expiry leave.
-use Rattle.std.proofs.Common.{◌≡◌, ℕ, ◌+◌, ◌-◌, ◌≤◌, Bool, true, not, eqb, leb, List, [], ◌∷◌, map, length, take, drop, ℤ, pos, ◌+ℤ◌, is_some, Some, None, Option, sym, refl, ap, ◌∙◌, arith}
+use Rattle.std.proofs.Common.{◌≡◌, ℕ, ◌+◌, ◌-◌, ◌≤◌, true, not, eqb, leb, List, [], ◌∷◌, map, length, take, drop, ℤ, pos, ◌+ℤ◌, is_some, Some, None, Option, sym, refl, ap, ◌∙◌, arith}
 use native.Mathlib.Nat.{sub-zero}
 use lib.Lanes.{zip2}
 use borrow.Author.Differences.{ints}

@@ -1,5 +1,5 @@
 -- A designation that is due: there is a lot for it, and what its rows make of the view.
-use Rattle.std.proofs.Common.{◌≡◌, ℕ, ◌+◌, ◌-◌, ◌≤◌, true, false, List, [], ◌∷◌, ◌++◌, length, get_or, take, set, ℤ, is_some, Some, None, Option, sym, refl, ap, ◌∙◌, subst, arith}
+use Rattle.std.proofs.Common.{◌≡◌, ℕ, ◌-◌, ◌≤◌, true, List, [], ◌∷◌, ◌++◌, length, get_or, take, set, ℤ, is_some, Some, None, Option, sym, refl, ap, ◌∙◌, subst, arith}
 use mathlib.Core.Logic.{∥∥₁_elim}
 use native.Mathlib.Bridge.{le_prop}
 use borrow.Author.Differences.{ints}
@@ -25,7 +25,7 @@ use Rattle.ledger.specs.Designations.{less_long, less_short}
 use Rattle.ledger.specs.Ledgers.{view, terms_of}
 use Rattle.ledger.specs.Reached.{Reached, viewed}
 use Rattle.ledger.proofs.Changes.{numbered_both, take_numbered}
-use Rattle.ledger.proofs.Tables.{bounded, contracts, is_registered}
+use Rattle.ledger.proofs.Tables.{bounded, is_registered}
 
 -- ---- the first of a line
 no_first : {X : Type 0} {x : X} → ◌≡◌ {A = Option X} None (Some x) → ⊥

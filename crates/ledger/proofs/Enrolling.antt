@@ -1,10 +1,9 @@
 -- An account that meets its questions: there is room for it, and its row makes the view that the rules give.
-use Rattle.std.proofs.Common.{◌≡◌, ℕ, ◌+◌, ◌<◌, ◌≤◌, List, [], ◌∷◌, ◌++◌, length, take, set, None, sym, refl, ap, ◌∙◌, arith}
+use Rattle.std.proofs.Common.{◌≡◌, ◌+◌, ◌<◌, List, length, take, set, None, ap, arith}
 use Rattle.std.proofs.lemmas.List.{length-take-le, take_more_set}
 use Rattle.std.proofs.lemmas.Bool.{ltb-true}
 use Rattle.tally.specs.declared.rows.Account.{Account}
 use Rattle.tally.specs.declared.call.Registration.{Registration}
-use Rattle.tally.specs.Book.{View}
 use Rattle.tally.specs.Events.{registering}
 use Rattle.tally.specs.Questions.{questions, verdict}
 use Rattle.tally.specs.Steps.{new_account, register}

@@ -1,5 +1,5 @@
 -- A notice that meets its questions: there is room for it, and its row makes the view that the rules give.
-use Rattle.std.proofs.Common.{◌≡◌, ℕ, ◌+◌, ◌<◌, ◌≤◌, List, [], ◌∷◌, ◌++◌, length, take, None, Ok, Err, Result, sym, refl, ap, ◌∙◌, arith, MatchResult}
+use Rattle.std.proofs.Common.{◌≡◌, ℕ, ◌<◌, ◌≤◌, List, [], ◌∷◌, ◌++◌, length, take, None, Ok, Err, Result, ap, arith, MatchResult}
 use Rattle.std.proofs.lemmas.List.{length-take-le}
 use Rattle.std.proofs.lemmas.Bool.{ltb-true}
 use Rattle.aged.specs.declared.Refusal.{Refusal}
@@ -7,7 +7,6 @@ use Rattle.aged.specs.declared.Refusal.TheVariants.{Empty, Full}
 use Rattle.aged.specs.Refusals.{Refused}
 use Rattle.tally.specs.declared.rows.Notice.{Notice}
 use Rattle.tally.specs.declared.call.Notification.{Notification}
-use Rattle.tally.specs.Book.{View}
 use Rattle.tally.specs.Events.{noticing}
 use Rattle.tally.specs.Questions.{questions, verdict}
 use Rattle.tally.specs.Steps.{notice, noticed_in}

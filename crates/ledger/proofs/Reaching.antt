@@ -1,6 +1,5 @@
 -- A run goes on: a view that some run leads to leads, by an accepted call, to the next.
-use Rattle.std.proofs.Common.{◌≡◌, ℕ, ◌+◌, ◌<◌, ◌≤◌, List, [], ◌∷◌, ◌++◌, length, take, set, Some, None, Ok, Err, fold, Option, Result, sym, refl, ap, ◌∙◌, subst, arith}
-use Rattle.std.specs.List.{AllByRecursion as All}
+use Rattle.std.proofs.Common.{◌≡◌, ℕ, List, [], ◌∷◌, ◌++◌, Some, None, Ok, fold, Option, Result, sym, refl, ap, ◌∙◌, arith}
 use Rattle.std.proofs.ByRecursion.{All-append}
 use Rattle.tally.specs.declared.call.Answer.{Answer}
 use Rattle.tally.specs.declared.call.Answer.TheVariants.{Refused}
@@ -10,7 +9,7 @@ use Rattle.tally.specs.Book.{Terms, View}
 use Rattle.tally.specs.Bounds.{FinalPriced}
 use Rattle.tally.specs.Events.{Event}
 use Rattle.tally.specs.Questions.{verdict}
-use Rattle.tally.specs.Runs.{after, answer, opened, reply, shown, written, rows_of, page_of}
+use Rattle.tally.specs.Runs.{after, answer, opened, reply, written, rows_of, page_of}
 use Rattle.tally.specs.Steps.{done}
 use Rattle.ledger.specs.Reached.{Reached}
 use Rattle.ledger.specs.Told.{judged}

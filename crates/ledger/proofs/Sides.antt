@@ -1,6 +1,5 @@
 -- One side of the sheet, row by row.
-use Rattle.std.proofs.Common.{◌≡◌, ℕ, zero, suc, ◌+◌, ◌-◌, ◌*◌, ◌<◌, ◌≤◌, min, cond, eqb, List, [], ◌∷◌, ◌++◌, map, length, get_or, take, drop, replicate, sum, sym, refl, ap, ◌∙◌, arith}
-use Rattle.std.specs.List.{AllByRecursion as All}
+use Rattle.std.proofs.Common.{◌≡◌, ℕ, zero, suc, ◌+◌, ◌-◌, ◌*◌, ◌<◌, ◌≤◌, min, cond, eqb, List, [], ◌∷◌, ◌++◌, length, get_or, take, drop, replicate, sum, refl, ap, ◌∙◌, arith}
 use Rattle.std.proofs.lemmas.List.{map-append, take_more, take_all, length-append, length-replicate, length-drop}
 use Rattle.std.proofs.lemmas.List.Sums.{sum_by-append, sum_by-take-drop}
 use Rattle.tally.specs.declared.rows.Trade.{Trade}
@@ -11,7 +10,7 @@ use Rattle.tally.proofs.Ring.{times}
 use Rattle.tally.proofs.Positions.{sum_replicate}
 use Rattle.ledger.specs.declared.sheet.Side.{Side}
 use Rattle.ledger.specs.declared.sheet.Side.TheVariants.{Bought, Sold}
-use Rattle.ledger.specs.Sheets.{Traded, on_side, contracts_on}
+use Rattle.ledger.specs.Sheets.{on_side, contracts_on}
 
 -- the posting of a trade on one side
 abbrev pub posting : Side → Trade → Posting

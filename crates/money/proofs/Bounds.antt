@@ -1,5 +1,5 @@
 -- The bound on a remainder: of no lines, of one line, and of lines added.
-use Rattle.std.proofs.Common.{◌≡◌, ℕ, ◌+◌, ◌*◌, ◌<◌, ◌≤◌, Bool, true, false, not, ◌&&◌, eqb, ℤ, pos, negsuc, ◌+ℤ◌, ◌-ℤ◌, ◌*ℤ◌, nat_abs, sym, refl, ap, ◌∙◌, arith}
+use Rattle.std.proofs.Common.{◌≡◌, ℕ, ◌+◌, ◌*◌, ◌<◌, ◌≤◌, Bool, true, false, not, ◌&&◌, eqb, ℤ, pos, ◌+ℤ◌, ◌-ℤ◌, ◌*ℤ◌, nat_abs, sym, refl, ap, arith}
 use borrow.Author.Differences.{ints}
 use Rattle.std.proofs.lemmas.Bool.{false≢true, eqb-true}
 use Rattle.money.specs.declared.currency.Currency.{Currency}
@@ -9,7 +9,7 @@ use Rattle.money.specs.declared.currency.Residency.TheVariants.{Resident, Nonres
 use Rattle.money.specs.declared.payment.Payment.{Payment}
 use Rattle.money.specs.Bound.{Allowed, BoundLaw, line_count}
 use Rattle.money.specs.Weights.{weight, other, paid_in}
-use Rattle.money.specs.Pays.{Pays, owed, unit, is_foreign, is_converted}
+use Rattle.money.specs.Pays.{Pays, unit, is_foreign}
 use Rattle.money.proofs.Payments.{at_home, weighs}
 use Rattle.money.specs.Nearest.{Nearest}
 use Rattle.money.proofs.Rounding.{size, within}

@@ -5,7 +5,6 @@ use Rattle.money.specs.declared.currency.Currency.{Currency}
 use Rattle.money.specs.declared.currency.Currency.TheVariants.{Real, Dollar}
 use Rattle.money.specs.declared.currency.Residency.{Residency}
 use Rattle.money.specs.declared.currency.Residency.TheVariants.{Resident, Nonresident}
-use Rattle.money.specs.declared.payment.Payment.{Payment}
 use Rattle.money.specs.Nearest.{Nearest}
 use Rattle.money.specs.Weights.{weight, paid_in}
 use Rattle.money.specs.Pays.{Pays, payment, owed, unit, is_foreign, is_converted}

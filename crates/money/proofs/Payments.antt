@@ -1,6 +1,5 @@
 -- Paying a line: the formula is the relation, and the worked lines.
-use Rattle.std.proofs.Common.{◌≡◌, ℕ, ◌*◌, ◌<◌, ◌≤◌, Bool, true, false, not, ◌&&◌, eqb, ℤ, pos, negsuc, ◌-ℤ◌, ◌*ℤ◌, nat_abs, sym, refl, ap, ◌∙◌, arith, lit≤}
-use borrow.Author.Differences.{ints}
+use Rattle.std.proofs.Common.{◌≡◌, ℕ, ◌<◌, ◌≤◌, false, ℤ, pos, ◌-ℤ◌, ◌*ℤ◌, nat_abs, sym, refl, ap, ◌∙◌, arith, lit≤}
 use Rattle.std.proofs.lemmas.Nat.{mul-le}
 use Rattle.std.proofs.lemmas.Bool.{false≢true}
 use Rattle.money.specs.declared.currency.Currency.{Currency}
@@ -8,10 +7,10 @@ use Rattle.money.specs.declared.currency.Currency.TheVariants.{Real, Dollar}
 use Rattle.money.specs.declared.currency.Residency.{Residency}
 use Rattle.money.specs.declared.currency.Residency.TheVariants.{Resident, Nonresident}
 use Rattle.money.specs.declared.payment.Payment.{Payment}
-use Rattle.money.specs.Nearest.{Nearest, nearest, nearest_size, off}
-use Rattle.money.specs.Weights.{weight, paid_in, other}
-use Rattle.money.specs.Pays.{Pays, PaymentLaw, Examples, paid_of, payment, payment_of, owed, unit, is_foreign, is_converted}
-use Rattle.money.proofs.Rounding.{close, exact, formula, unique, size, within}
+use Rattle.money.specs.Nearest.{nearest}
+use Rattle.money.specs.Weights.{weight, paid_in}
+use Rattle.money.specs.Pays.{Pays, PaymentLaw, Examples, paid_of, payment_of, owed, unit, is_foreign}
+use Rattle.money.proofs.Rounding.{exact, formula, unique, size}
 
 pub weighs : (c : Currency) (rate : ℕ) → 0 < rate → 0 < weight c rate
 weighs Real rate h = lit≤ tt

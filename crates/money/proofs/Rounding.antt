@@ -1,12 +1,11 @@
 -- Rounding: a number within half a unit, and past n at a half, is the nearest; and the nearest is one.
 -- Assumes nothing.
-use Rattle.std.proofs.Common.{◌≡◌, ℕ, zero, suc, ◌+◌, ◌*◌, ◌/◌, ◌%◌, ◌<◌, ◌≤◌, ◌⊎◌, ℤ, pos, negsuc, ◌+ℤ◌, ◌-ℤ◌, ◌*ℤ◌, neg_ℤ, nat_abs, ◌≤ℤ◌, ◌<ℤ◌, sym, refl, ap, subst, inl, inr, ⊎_elim, mul-le-mul_right, add-mul, div-mul-le_self, arith}
+use Rattle.std.proofs.Common.{◌≡◌, ℕ, zero, suc, ◌+◌, ◌*◌, ◌<◌, ◌≤◌, ℤ, pos, negsuc, ◌+ℤ◌, ◌-ℤ◌, ◌*ℤ◌, neg_ℤ, nat_abs, ◌≤ℤ◌, ◌<ℤ◌, sym, refl, ap, ⊎_elim, mul-le-mul_right, add-mul, div-mul-le_self, arith}
 use native.Mathlib.Nat.{lt-div-mul-add}
 use lib.IntN.{ℤ_discrete, suc_ℤ, pred_ℤ, suc_ℤ-*ℤ, pred_ℤ-*ℤ}
-use borrow.Author.Differences.{up, down, ints, product_is}
+use borrow.Author.Differences.{up, down, ints}
 use Rattle.std.proofs.lemmas.Int.{by_lt_z}
 use Rattle.std.proofs.lemmas.Bool.{cases_lt}
-use Rattle.std.proofs.lemmas.Nat.{div-add-mod', mod_below}
 use Rattle.money.specs.Nearest.{Nearest, NearestLaw, nearest, nearest_size, off}
 
 -- k below q: k units and one more are at most q units

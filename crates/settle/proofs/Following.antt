@@ -1,14 +1,14 @@
 -- A kind that obeys a rule of the trade has the rule's report.
 use Rattle.std.proofs.Common.{◌≡◌, ℕ, ◌+◌, Bool, true, false, cond, List, [], ◌∷◌, ◌++◌, length, Some, None, Ok, Err, Option, refl, ap, ◌∙◌}
 use Rattle.money.specs.Ranges.{is_price}
-use Rattle.kinds.specs.Averages.{average_rule, AveragePrice, quantities, values}
+use Rattle.kinds.specs.Averages.{average_rule, AveragePrice}
 use Rattle.kinds.specs.Delivery.{delivering, delivery_rule, NoPrice}
 use Rattle.kinds.specs.Indexes.{index_rule, IndexPrice}
 use Rattle.kinds.specs.Indexing.{five}
 use Rattle.kinds.specs.Limits.{is_quantity}
 use Rattle.kinds.specs.Meaning.{Meaning}
-use Rattle.kinds.specs.Quotations.{Reply, quotable}
-use Rattle.kinds.specs.Quoted.{Obeys, Pricing, Rule, replies, said, state, taken, with_next}
+use Rattle.kinds.specs.Quotations.{quotable}
+use Rattle.kinds.specs.Quoted.{Obeys, Rule, replies, said, state, taken, with_next}
 use Rattle.kinds.specs.Tickers.{row}
 use Rattle.kinds.specs.Weighting.{weighted}
 use Rattle.kinds.specs.declared.delivering.Delivering.{Delivering}
@@ -20,7 +20,7 @@ use Rattle.kinds.specs.declared.weighted.WeightedAverage.{WeightedAverage}
 use Rattle.reader.specs.Readings.{reading}
 use Rattle.settle.specs.declared.faults.BookFault.TheVariants.{Unpriced, Uncounted}
 use Rattle.settle.specs.Answers.{Line, answer_to, answered, answering, of_book, quotation_in, remembered}
-use Rattle.settle.specs.Courses.{Course, course, of_kind}
+use Rattle.settle.specs.Courses.{course, of_kind}
 use Rattle.settle.specs.Endings.{average_price, by_rule, course_of, index_price, no_price}
 use Rattle.settle.specs.Lines.{closing_line}
 use Rattle.settle.specs.Report.{opened_on, record_text, serving, standing, taken_in}

@@ -1,5 +1,5 @@
 -- The course of a contract's quotations: what is said to each, and what the contract ends at.
-use Rattle.std.specs.Prelude.{ℕ, cond, ◌&&◌, Ok, Err, Option, Result}
+use Rattle.std.specs.Prelude.{ℕ, cond, Ok, Err, Option, Result}
 use Rattle.money.specs.Ranges.{is_price}
 use Rattle.kinds.specs.Limits.{is_quantity}
 use Rattle.kinds.specs.Meaning.{Meaning}

@@ -2,13 +2,12 @@
 use Rattle.std.specs.Prelude.{ℕ, ◌+◌, true, false, List, [], ◌∷◌, ◌++◌, length, Some, None, Ok, Err, Option, Result}
 use Rattle.kinds.specs.Tickers.{row}
 use Rattle.kinds.specs.declared.months.Ticker.{Ticker}
-use Rattle.kinds.specs.declared.quotation.Quotation.{Quotation}
 use Rattle.reader.specs.Cuts.{lines}
 use Rattle.reader.specs.Readings.{reading}
 use Rattle.settle.specs.declared.answers.Outcome.{Outcome}
 use Rattle.settle.specs.declared.answers.Outcome.TheVariants.{Taken, Unserved}
 use Rattle.settle.specs.declared.faults.Refusal.{Refusal}
-use Rattle.settle.specs.Answers.{Line, answered, answering, opening_to}
+use Rattle.settle.specs.Answers.{answered, answering, opening_to}
 use Rattle.settle.specs.Courses.{Course}
 use Rattle.settle.specs.Endings.{course_of}
 use Rattle.settle.specs.Lines.{closing_line, refusal_line}

@@ -1,7 +1,6 @@
 -- Sessions, settlement prices and rates of a run.
-use Rattle.std.proofs.Common.{◌≡◌, ℕ, ◌+◌, ◌<◌, ◌≤◌, Bool, true, false, cond, leb, List, [], ◌∷◌, Some, None, fold, Option, sym, refl, ap, ◌∙◌, arith}
+use Rattle.std.proofs.Common.{◌≡◌, ◌+◌, ◌<◌, ◌≤◌, List, [], ◌∷◌, Some, None, fold, refl, arith}
 use Rattle.std.proofs.lemmas.Bool.{leb-true}
-use Rattle.money.specs.Ranges.{is_price, is_rate}
 use Rattle.tally.specs.declared.rows.Lot.{Lot}
 use Rattle.tally.specs.declared.rows.Notice.{Notice}
 use Rattle.tally.specs.Book.{Terms, Tally, seen}

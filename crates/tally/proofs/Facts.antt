@@ -1,23 +1,17 @@
 -- What the questions tell, and what an account shows.
-use Rattle.std.proofs.Common.{◌≡◌, ℕ, zero, suc, ◌+◌, ◌-◌, ◌<◌, ◌≤◌, min, Bool, true, false, cond, ◌&&◌, eqb, ltb, leb, List, [], ◌∷◌, ◌++◌, map, length, get_or, replicate, ℤ, pos, negsuc, ◌+ℤ◌, ◌-ℤ◌, Some, None, Option, sym, refl, ap, ◌∙◌, ⊎_elim, arith}
+use Rattle.std.proofs.Common.{◌≡◌, ℕ, zero, suc, ◌+◌, ◌-◌, ◌<◌, ◌≤◌, min, true, false, cond, eqb, leb, List, [], ◌∷◌, ◌++◌, length, get_or, ℤ, pos, negsuc, Some, None, refl, ap, ◌∙◌, arith}
 use borrow.Author.Differences.{up, down}
 use Rattle.std.specs.List.{AllByRecursion as All}
 use Rattle.std.proofs.lemmas.List.{map_push, length-append, length-replicate}
 use Rattle.std.proofs.lemmas.Bool.{and_parts, leb-true, ne_eqb}
-use Rattle.tally.specs.declared.rows.Account.{Account}
 use Rattle.tally.specs.declared.rows.Trade.{Trade}
-use Rattle.tally.specs.declared.rows.Lot.{Lot}
-use Rattle.tally.specs.declared.rows.Notice.{Notice}
 use Rattle.tally.specs.declared.call.Registration.{Registration}
-use Rattle.tally.specs.declared.call.Notification.{Notification}
-use Rattle.tally.specs.declared.call.Marking.{Marking}
-use Rattle.tally.specs.declared.refusal.Refusal.{Refusal}
 use Rattle.tally.specs.Account.{net}
 use Rattle.tally.specs.Law.{Registered}
 use Rattle.tally.proofs.Balance.{Balanced}
-use Rattle.tally.specs.Book.{Terms, Posting, Tally, View, numbered, prices, buy, sell, buys, sells, carried, account, seen}
+use Rattle.tally.specs.Book.{Terms, Posting, Tally, numbered, prices, buy, sell, buys, sells, carried, account, seen}
 use Rattle.tally.specs.Events.{trading}
-use Rattle.tally.specs.Questions.{Question, first_unmet, find, net_of, nobody, registered, between}
+use Rattle.tally.specs.Questions.{Question, first_unmet, find, net_of, nobody, between}
 use Rattle.tally.specs.Steps.{entered}
 use Rattle.tally.proofs.Positions.{net_is}
 use Rattle.tally.proofs.Numbered.{prices_append, prices_one}

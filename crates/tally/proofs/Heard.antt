@@ -6,7 +6,7 @@ use Rattle.kinds.specs.Meaning.{Meaning}
 use Rattle.tally.specs.declared.call.Call.{Call}
 use Rattle.tally.specs.declared.call.Call.TheVariants as call
 use Rattle.tally.specs.Bounds.{FinalPriced}
-use Rattle.tally.specs.Events.{Request, Event, event, events, kind_after, expiring}
+use Rattle.tally.specs.Events.{Request, event, events, kind_after, expiring}
 
 final_priced : (o : Option ℕ) (room : ℕ) → IfSome o (λ p. is_price p ≡ true) → FinalPriced (expiring o room)
 final_priced None room h = tt

@@ -1,6 +1,6 @@
 -- Each call keeps a tally balanced, so what a page owes sums to zero.
-use Rattle.std.proofs.Common.{◌≡◌, ℕ, ◌+◌, ◌*◌, ◌<◌, ◌≤◌, min, Bool, true, false, cond, List, [], ◌∷◌, ◌++◌, map, length, replicate, ℤ, pos, ◌+ℤ◌, ◌-ℤ◌, ◌*ℤ◌, sum_by, sum, sym, refl, ap, ◌∙◌, arith}
-use borrow.Author.Differences.{up, down, sum_is_lem, same_in, ints}
+use Rattle.std.proofs.Common.{◌≡◌, ℕ, ◌+◌, ◌*◌, ◌≤◌, List, [], ◌∷◌, map, length, ℤ, pos, ◌+ℤ◌, sum_by, sym, refl, ap, ◌∙◌, arith}
+use borrow.Author.Differences.{ints}
 use Rattle.std.specs.List.{AllByRecursion as All}
 use Rattle.std.proofs.ByRecursion.{All-append}
 use Rattle.std.proofs.lemmas.List.Sums.{sum_by-cons, sum_by-append, sum_by_push}
@@ -8,18 +8,16 @@ use Rattle.tally.specs.declared.rows.Account.{Account}
 use Rattle.tally.specs.declared.rows.Trade.{Trade}
 use Rattle.tally.specs.declared.rows.Lot.{Lot}
 use Rattle.tally.specs.declared.rows.Notice.{Notice}
-use Rattle.tally.specs.declared.call.Registration.{Registration}
-use Rattle.tally.specs.declared.call.Notification.{Notification}
 use Rattle.tally.specs.declared.call.Marking.{Marking}
-use Rattle.tally.specs.Account.{long, short, net, position}
-use Rattle.tally.specs.Book.{Terms, Posting, Tally, View, numbered, prices, buy, sell, buys, sells, carried, account, seen}
+use Rattle.tally.specs.Account.{long, short}
+use Rattle.tally.specs.Book.{Terms, Posting, Tally, View, numbered, prices, buy, sell, buys, sells, carried, seen}
 use Rattle.tally.specs.Steps.{paired, fed_marking, fed_designation, fed_expiry, mark, marked_account, expire, expired_account}
 use Rattle.tally.specs.Law.{Registered, totals}
 use Rattle.tally.specs.Pages.{sumℤ, by_marking, by_expiry}
 use Rattle.tally.proofs.Balance.{contracts, worth_of, Balanced}
 use Rattle.tally.proofs.Positions.{net_is}
 use Rattle.tally.proofs.Ring.{times}
-use Rattle.tally.proofs.Numbered.{map_numbered, numbered_same, each}
+use Rattle.tally.proofs.Numbered.{map_numbered, each}
 use Rattle.tally.proofs.Zero.{over, all_contracts, totals_zero}
 use Rattle.tally.proofs.Square.{mark_square, expire_square}
 

@@ -1,23 +1,19 @@
 -- The settlement law.
-use Rattle.std.proofs.Common.{◌≡◌, ℕ, ◌+◌, ◌-◌, ◌*◌, ◌<◌, ◌≤◌, Bool, true, false, cond, not, ◌&&◌, eqb, ltb, leb, List, [], ◌∷◌, ◌++◌, map, length, get_or, ℤ, pos, ◌+ℤ◌, ◌-ℤ◌, ◌*ℤ◌, Some, None, fold, sum, Option, sym, refl, ap, ◌∙◌, subst, arith}
+use Rattle.std.proofs.Common.{◌≡◌, ℕ, ◌+◌, ◌-◌, ◌*◌, ◌<◌, ◌≤◌, true, false, cond, not, ◌&&◌, eqb, ltb, leb, List, [], ◌∷◌, ◌++◌, length, get_or, pos, ◌+ℤ◌, ◌-ℤ◌, ◌*ℤ◌, Some, None, fold, sum, Option, sym, refl, ap, ◌∙◌, subst, arith}
 use Rattle.std.specs.List.{AllByRecursion as All}
 use Rattle.std.proofs.lemmas.List.{append_assoc, append-nil}
-use Rattle.std.proofs.lemmas.Bool.{and_parts, leb-true, eqb-true, not-true, false≢true}
-use Rattle.tally.specs.declared.rows.Account.{Account}
+use Rattle.std.proofs.lemmas.Bool.{and_parts, eqb-true, not-true, false≢true}
 use Rattle.tally.specs.declared.rows.Lot.{Lot}
 use Rattle.tally.specs.declared.rows.Notice.{Notice}
-use Rattle.tally.specs.declared.refusal.Refusal.{Refusal}
 use Rattle.tally.specs.declared.call.Marking.{Marking}
-use Rattle.tally.specs.declared.call.Registration.{Registration}
 use Rattle.tally.specs.Account.{long, net, position}
-use Rattle.tally.specs.Book.{Terms, Tally, View, numbered, prices, carried, account, seen}
+use Rattle.tally.specs.Book.{Terms, Tally, View, prices, carried, account, seen}
 use Rattle.tally.specs.Events.{Event, registering, trading, quoting, noticing, designating, marking, expiring}
-use Rattle.tally.specs.Law.{Registered, totals, page_rate, Balances, Met, Settled, Buildable, SettlementLaw}
+use Rattle.tally.specs.Law.{Registered, totals, page_rate, Balances, Met, Buildable, SettlementLaw}
 use Rattle.tally.specs.Logs.{Side, bought, sold, markings, closed, trades, designations, notices_from, last_marked, settlement_price, sellers, designated, counted, value, contracts_of, value_of, postings, final_price, at_expiry, open_contracts, carried_by}
 use Rattle.tally.specs.Pages.{Page, sumℤ}
 use Rattle.tally.specs.Questions.{questions, verdict, first_unmet, find, nobody, in_lots, is_due, is_buildable, between}
-use Rattle.tally.specs.Runs.{Entry, after, fed, begun, entry, log, log_from, page_of, shown, tally}
-use Rattle.tally.proofs.Balance.{Balanced}
+use Rattle.tally.specs.Runs.{Entry, fed, begun, entry, log, log_from, page_of, shown, tally}
 use Rattle.tally.proofs.Clock.{Clocked, clocked}
 use Rattle.tally.proofs.Facts.{met, between_is, length_numbered, get_d_numbered, someone}
 use Rattle.tally.proofs.Lots.{oldest_first}

@@ -1,5 +1,5 @@
 -- The nine worked lines.
-use Rattle.std.proofs.Common.{◌≡◌, ℕ, true, false, not, leb, length, Some, None, refl}
+use Rattle.std.proofs.Common.{◌≡◌, ℕ, Some, None, refl}
 use Rattle.money.specs.Nearest.{nearest}
 use Rattle.money.specs.Pays.{paid_of}
 use Rattle.kinds.proofs.FiveWorked.{worked_line}

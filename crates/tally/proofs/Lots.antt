@@ -3,11 +3,11 @@ use Rattle.std.proofs.Common.{◌≡◌, ℕ, ◌+◌, ◌-◌, ◌<◌, ◌≤�
 use Rattle.std.specs.List.{AllByRecursion as All}
 use Rattle.std.proofs.ByRecursion.{All-append}
 use Rattle.std.proofs.lemmas.List.{length-append}
-use Rattle.std.proofs.lemmas.Bool.{eq-eqb, ne_eqb, eqb-true, cases_eq, leb-true, leb-false, ltb-true, ltb-false}
+use Rattle.std.proofs.lemmas.Bool.{eq-eqb, ne_eqb, cases_eq, leb-false, ltb-true}
 use Rattle.std.proofs.lemmas.Bool.Decides.{nat_tests}
 use Rattle.aged.specs.Line.{take_picked, owned_by, every}
 use Rattle.tally.specs.declared.rows.Lot.{Lot}
-use Rattle.tally.specs.Account.{long, short}
+use Rattle.tally.specs.Account.{long}
 use Rattle.tally.specs.Book.{numbered}
 use Rattle.tally.specs.Law.{Registered, Behind, LotsInOrder}
 use Rattle.tally.specs.Questions.{in_lots}

@@ -1,13 +1,13 @@
 -- Notices: what each seller has under notice, their order, and their contracts one by one.
-use Rattle.std.proofs.Common.{◌≡◌, ℕ, ◌+◌, ◌-◌, ◌<◌, ◌≤◌, Bool, true, false, cond, eqb, ltb, leb, List, [], ◌∷◌, ◌++◌, length, replicate, filter, sym, refl, ap, ◌∙◌, arith}
+use Rattle.std.proofs.Common.{◌≡◌, ℕ, ◌+◌, ◌-◌, ◌<◌, ◌≤◌, true, false, cond, eqb, ltb, leb, List, [], ◌∷◌, ◌++◌, length, replicate, sym, refl, ap, ◌∙◌, arith}
 use Rattle.std.specs.List.{AllByRecursion as All}
-use Rattle.std.proofs.lemmas.List.{append-nil, append_assoc, replicate-append-replicate}
-use Rattle.std.proofs.lemmas.Bool.{ne_eqb, leb-true, leb-false, ltb-false, lt-ltb, le-ltb}
+use Rattle.std.proofs.lemmas.List.{append_assoc, replicate-append-replicate}
+use Rattle.std.proofs.lemmas.Bool.{ne_eqb, leb-true, leb-false, ltb-false, lt-ltb}
 use Rattle.std.proofs.lemmas.Bool.Decides.{nat_tests}
 use Rattle.aged.specs.Line.{every}
 use Rattle.tally.specs.declared.rows.Notice.{Notice}
 use Rattle.tally.specs.Law.{Registered}
-use Rattle.tally.specs.Logs.{sellers, before}
+use Rattle.tally.specs.Logs.{sellers}
 use Rattle.tally.specs.Questions.{is_due, under_notice}
 use Rattle.tally.specs.Rows.{notice_counting}
 use Rattle.tally.specs.Steps.{less_oldest_notices}

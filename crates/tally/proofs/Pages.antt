@@ -1,5 +1,5 @@
 -- A page whose owed amounts sum to zero weighs what its remainder says, and that is within what its converted lines allow.
-use Rattle.std.proofs.Common.{◌≡◌, ℕ, ◌+◌, ◌<◌, Bool, true, false, List, [], ◌∷◌, map, ℤ, pos, ◌+ℤ◌, ◌-ℤ◌, ◌*ℤ◌, sym, refl, ap, ◌∙◌, arith}
+use Rattle.std.proofs.Common.{◌≡◌, ℕ, ◌<◌, List, [], ◌∷◌, map, ℤ, pos, ◌+ℤ◌, ◌-ℤ◌, ◌*ℤ◌, sym, refl, ap, ◌∙◌, arith}
 use lib.IntN.{*ℤ_comm, *ℤ-zero}
 use borrow.Author.Differences.{ints}
 use Rattle.money.specs.declared.currency.Currency.{Currency}
@@ -11,11 +11,10 @@ use Rattle.money.specs.Pays.{payment_of, paid_of}
 use Rattle.money.specs.Weights.{weight}
 use Rattle.money.proofs.Bounds.{bound_law}
 use Rattle.money.proofs.Payments.{pays}
-use Rattle.tally.specs.declared.rows.Account.{Account}
 use Rattle.tally.specs.declared.call.Marking.{Marking}
-use Rattle.tally.specs.Book.{Terms, Tally, View, numbered, seen}
+use Rattle.tally.specs.Book.{Terms, Tally, seen}
 use Rattle.tally.specs.Law.{Balances}
-use Rattle.tally.specs.Pages.{Listed, Owed, Line, Page, roll, lines, line_of, sumℤ, paid_as, paid_sum, remainder_sum, converted_lines, page, by_marking, by_expiry}
+use Rattle.tally.specs.Pages.{Listed, Owed, Line, roll, lines, line_of, sumℤ, paid_as, paid_sum, remainder_sum, converted_lines, page, by_marking, by_expiry}
 use Rattle.tally.proofs.Balance.{Balanced}
 use Rattle.tally.proofs.Kept.{owed, owed_last, owed_zero, owed_last_zero}
 use Rattle.tally.proofs.Numbered.{map_numbered, numbered_same}

@@ -1,10 +1,10 @@
 -- One account at a marking: what was accumulated is the formula.
-use Rattle.std.proofs.Common.{◌≡◌, ℕ, zero, suc, ◌+◌, ◌*◌, ◌≤◌, min, List, [], ◌∷◌, ◌++◌, length, take, drop, replicate, ℤ, pos, ◌+ℤ◌, ◌-ℤ◌, ◌*ℤ◌, neg_ℤ, sum, sym, refl, ap, ◌∙◌, arith}
+use Rattle.std.proofs.Common.{◌≡◌, ℕ, zero, suc, ◌+◌, ◌*◌, List, [], ◌∷◌, ◌++◌, length, take, drop, replicate, ℤ, pos, ◌+ℤ◌, ◌-ℤ◌, ◌*ℤ◌, neg_ℤ, sum, sym, refl, ap, ◌∙◌, arith}
 use borrow.Author.Differences.{up, down, sum_is_lem, neg_is, product_is, same_in, ints}
 use Rattle.std.proofs.lemmas.List.{length-append, length-drop, length-replicate}
 use Rattle.std.proofs.lemmas.List.Sums.{sum_by-cons, sum_by-append, sum_by-take-drop}
 use Rattle.tally.specs.Account.{net, position, above, offset, day_trade, margin}
-use Rattle.tally.proofs.Ring.{times, mul_add, add-mul, mul_neg}
+use Rattle.tally.proofs.Ring.{times, mul_add, mul_neg}
 
 pub net_is : (B S : List ℕ) → up (net B S) + length S ≡ down (net B S) + length B
 unfolding net

@@ -1,5 +1,5 @@
 -- Every run: what the book shows is what the tally shows, and the tally is sound.
-use Rattle.std.proofs.Common.{◌≡◌, ℕ, ◌+◌, ◌<◌, ◌≤◌, Bool, true, false, cond, not, ◌&&◌, eqb, ltb, leb, List, [], ◌∷◌, ◌++◌, length, ℤ, pos, Some, None, fold, Option, sym, refl, ap, ◌∙◌, arith}
+use Rattle.std.proofs.Common.{◌≡◌, ℕ, ◌+◌, true, false, cond, ◌&&◌, eqb, ltb, leb, List, [], ◌∷◌, ◌++◌, length, ℤ, Some, None, fold, sym, refl, ap, ◌∙◌, arith}
 use Rattle.std.proofs.lemmas.Bool.{ltb-true, eqb-true, and_parts}
 use Rattle.tally.specs.declared.rows.Account.{Account}
 use Rattle.tally.specs.declared.rows.Trade.{Trade}
@@ -11,7 +11,7 @@ use Rattle.tally.specs.Book.{Terms, Tally, View, numbered, prices, buys, sells, 
 use Rattle.tally.specs.Events.{Event, registering, trading, quoting, noticing, designating, marking, expiring}
 use Rattle.tally.specs.Law.{Buildable}
 use Rattle.tally.specs.Questions.{questions, verdict, is_buildable, is_due, traded_account, between}
-use Rattle.tally.specs.Runs.{after, fed, opened, begun, shown, tally}
+use Rattle.tally.specs.Runs.{after, fed, begun, shown, tally}
 use Rattle.tally.specs.Steps.{new_account, designate_oldest, fed_oldest, done, entered}
 use Rattle.tally.proofs.Facts.{met, count_buys, count_sells, prices_stranger}
 use Rattle.tally.proofs.Kept.{waited}

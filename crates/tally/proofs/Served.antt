@@ -1,20 +1,18 @@
 -- Notices in the log: contracts noticed are contracts designated, in order and once, followed by contracts standing.
-use Rattle.std.proofs.Common.{◌≡◌, ℕ, ◌+◌, ◌-◌, ◌<◌, ◌≤◌, Bool, true, false, cond, not, ◌&&◌, eqb, ltb, leb, List, [], ◌∷◌, ◌++◌, map, length, replicate, Some, None, filter, Option, sym, refl, ap, ◌∙◌, ⊎_elim, arith}
+use Rattle.std.proofs.Common.{◌≡◌, ℕ, ◌+◌, ◌-◌, ◌<◌, ◌≤◌, Bool, true, false, cond, ltb, leb, List, [], ◌∷◌, ◌++◌, replicate, Some, None, filter, sym, refl, ap, ◌∙◌, ⊎_elim, arith}
 use Rattle.std.specs.List.{AllByRecursion as All}
 use Rattle.std.proofs.lemmas.List.Elements.{filter-append}
 use Rattle.std.proofs.ByRecursion.{All-append, All-weaker}
 use Rattle.std.proofs.lemmas.List.{append_assoc, append-nil}
-use Rattle.std.proofs.lemmas.Bool.{leb-true, ltb-true, le-ltb, lt-ltb, not-true, false≢true, cases_lt}
+use Rattle.std.proofs.lemmas.Bool.{ltb-true, le-ltb, lt-ltb, not-true, false≢true, cases_lt}
 use Rattle.tally.specs.declared.rows.Lot.{Lot}
 use Rattle.tally.specs.declared.rows.Notice.{Notice}
 use Rattle.tally.specs.declared.rows.Designation.{Designation}
 use Rattle.tally.specs.declared.rows.PageRow.{PageRow}
-use Rattle.tally.specs.declared.refusal.Refusal.{Refusal}
 use Rattle.tally.specs.declared.call.Answer.{Answer}
-use Rattle.tally.specs.declared.call.Answer.TheVariants.{Refused, Numbered, Accepted, Designated, Paid}
-use Rattle.tally.specs.declared.call.Notification.{Notification}
+use Rattle.tally.specs.declared.call.Answer.TheVariants.{Refused, Designated}
 use Rattle.tally.specs.declared.call.Marking.{Marking}
-use Rattle.tally.specs.Book.{Terms, Tally, View, seen}
+use Rattle.tally.specs.Book.{Terms, Tally, seen}
 use Rattle.tally.specs.Events.{Event, registering, trading, quoting, noticing, designating, marking, expiring}
 use Rattle.tally.specs.Logs.{designation_in, markings, designations, noticed, sellers, designated, before}
 use Rattle.tally.specs.Questions.{questions, verdict, is_due}

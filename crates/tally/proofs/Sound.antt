@@ -1,11 +1,10 @@
 -- What holds of the tally of every run.
-use Rattle.std.proofs.Common.{◌≡◌, ℕ, ◌+◌, ◌-◌, ◌<◌, ◌≤◌, min, Bool, true, false, cond, not, ◌&&◌, eqb, ltb, leb, List, [], ◌∷◌, ◌++◌, map, length, ℤ, pos, ◌+ℤ◌, ◌-ℤ◌, Some, None, Option, sym, refl, ap, ◌∙◌, subst, ⊎_elim, arith}
+use Rattle.std.proofs.Common.{◌≡◌, ℕ, ◌+◌, ◌<◌, ◌≤◌, true, false, cond, ◌&&◌, eqb, ltb, leb, List, [], ◌∷◌, ◌++◌, length, pos, ◌+ℤ◌, Some, None, sym, refl, ap, ◌∙◌, subst, ⊎_elim, arith}
 use borrow.Author.Differences.{up, down, sum_is_lem}
 use Rattle.std.specs.List.{AllByRecursion as All}
-use Rattle.std.proofs.ByRecursion.{All-append, All-push, All-weaker}
-use Rattle.std.proofs.lemmas.List.{map_push, length-append, append_assoc, append-nil}
-use Rattle.std.proofs.lemmas.Bool.{and_parts, leb-true, leb-false, ltb-true, ltb-false, eq-eqb, ne_eqb, eqb-true, eqb-false, cases_eq, cases_lt, not-true, lt-ltb}
-use Rattle.tally.specs.declared.rows.Account.{Account}
+use Rattle.std.proofs.ByRecursion.{All-push, All-weaker}
+use Rattle.std.proofs.lemmas.List.{length-append}
+use Rattle.std.proofs.lemmas.Bool.{and_parts, leb-true, eq-eqb, ne_eqb, cases_eq, cases_lt, not-true, lt-ltb}
 use Rattle.tally.specs.declared.rows.Trade.{Trade}
 use Rattle.tally.specs.declared.rows.Lot.{Lot}
 use Rattle.tally.specs.declared.rows.Notice.{Notice}
@@ -13,20 +12,20 @@ use Rattle.tally.specs.declared.call.Registration.{Registration}
 use Rattle.tally.specs.declared.call.Notification.{Notification}
 use Rattle.tally.specs.declared.call.Marking.{Marking}
 use Rattle.tally.specs.Account.{long, short, net}
-use Rattle.tally.specs.Book.{Terms, Posting, Tally, View, numbered, prices, buys, sells, carried, account, seen}
-use Rattle.tally.specs.Events.{Event, registering, trading, quoting, noticing, designating, marking, expiring}
+use Rattle.tally.specs.Book.{Terms, Tally, View, numbered, prices, buys, sells, carried, account, seen}
+use Rattle.tally.specs.Events.{registering, trading, noticing, marking, expiring}
 use Rattle.tally.specs.Law.{Registered, LotsInOrder}
-use Rattle.tally.specs.Questions.{verdict, questions, first_unmet, find, net_of, nobody, in_lots, under_notice, is_buildable}
-use Rattle.tally.specs.Runs.{fed, begun}
-use Rattle.tally.specs.Steps.{Change, change, turned, paired, noticed_in, less_oldest_lots, less_oldest_notices, entered, fed_oldest, fed_marking, fed_designation, fed_expiry}
+use Rattle.tally.specs.Questions.{verdict, questions, find, net_of, in_lots, under_notice}
+use Rattle.tally.specs.Runs.{begun}
+use Rattle.tally.specs.Steps.{Change, change, paired, noticed_in, less_oldest_lots, less_oldest_notices, entered, fed_marking, fed_designation, fed_expiry}
 use Rattle.tally.proofs.Balance.{Balanced}
 use Rattle.tally.proofs.Positions.{net_is}
 use Rattle.tally.proofs.Square.{closed_carried}
 use Rattle.tally.proofs.Kept.{balanced_marking, balanced_designation, balanced_expiry, longs_are_shorts}
 use Rattle.tally.proofs.Zero.{over}
-use Rattle.tally.proofs.Lots.{lots_push, lots_first, lots_stranger, none_in_lots, turned_own, all_less_oldest, all_turned, order_less_oldest, order_until, order_turned, below_any}
-use Rattle.tally.proofs.Notices.{notices_push, notices_first, notices_cons, none_under_notice, all_less_notices, Ordered, due, due_all, due_push, due_first, ordered_push, ordered_later, ordered_less}
-use Rattle.tally.proofs.Facts.{met, between_is, length_numbered, today, someone, found, today_is, count_push, count_buys, count_sells, one_is_0, carried_stranger, today_traded}
+use Rattle.tally.proofs.Lots.{lots_first, lots_stranger, none_in_lots, turned_own, all_less_oldest, all_turned, order_less_oldest, order_until, order_turned, below_any}
+use Rattle.tally.proofs.Notices.{notices_push, notices_first, none_under_notice, all_less_notices, Ordered, due, due_all, due_push, due_first, ordered_push, ordered_later, ordered_less}
+use Rattle.tally.proofs.Facts.{met, between_is, length_numbered, today, someone, found, today_is, count_push, one_is_0, carried_stranger, today_traded}
 
 pub record Sound (c : Terms) (t : Tally) : Type 0 where
   pub balanced : Balanced t

@@ -1,5 +1,5 @@
 -- What each call tells: the log with its entry counts what the fed tally counts.
-use Rattle.std.proofs.Common.{◌≡◌, ℕ, ◌+◌, ◌*◌, ◌<◌, ◌≤◌, Bool, true, false, cond, not, ◌&&◌, eqb, leb, List, [], ◌∷◌, ◌++◌, map, length, replicate, ℤ, pos, ◌-ℤ◌, Some, None, sum, Option, sym, refl, ap, ◌∙◌, arith}
+use Rattle.std.proofs.Common.{◌≡◌, ℕ, ◌+◌, ◌*◌, ◌≤◌, Bool, true, false, not, ◌&&◌, eqb, List, [], ◌∷◌, ◌++◌, map, length, pos, ◌-ℤ◌, Some, None, sum, sym, refl, ap, ◌∙◌, arith}
 use Rattle.std.proofs.lemmas.List.{append_assoc, append-nil, map-append, length-replicate}
 use Rattle.std.proofs.lemmas.Bool.{and_parts, leb-true, ltb-true, eqb-true, not-true, false≢true}
 use Rattle.tally.specs.declared.rows.Trade.{Trade}
@@ -7,26 +7,24 @@ use Rattle.tally.specs.declared.rows.Lot.{Lot}
 use Rattle.tally.specs.declared.rows.Notice.{Notice}
 use Rattle.tally.specs.declared.rows.Designation.{Designation}
 use Rattle.tally.specs.declared.rows.PageRow.{PageRow}
-use Rattle.tally.specs.declared.rows.Sums.{Sums}
 use Rattle.tally.specs.declared.refusal.Refusal.{Refusal}
 use Rattle.tally.specs.declared.call.Answer.{Answer}
-use Rattle.tally.specs.declared.call.Answer.TheVariants.{Refused, Numbered, Accepted, Designated, Paid}
+use Rattle.tally.specs.declared.call.Answer.TheVariants.{Refused, Designated}
 use Rattle.tally.specs.declared.call.Marking.{Marking}
-use Rattle.tally.specs.declared.call.Registration.{Registration}
-use Rattle.tally.specs.Account.{long, short, net}
-use Rattle.tally.specs.Book.{Terms, Tally, View, Posting, numbered, prices, buy, sell, buys, sells, carried, seen}
+use Rattle.tally.specs.Account.{net}
+use Rattle.tally.specs.Book.{Terms, Tally, numbered, prices, carried, seen}
 use Rattle.tally.specs.Events.{Event, registering, trading, quoting, noticing, designating, marking, expiring}
 use Rattle.tally.specs.Law.{Registered}
-use Rattle.tally.specs.Logs.{Side, bought, sold, is_accepted, marked_by, ended_by, is_marking, designation_in, markings, closed, trades, designations, settlement_price, final_price, by_trade, by_designation, at_expiry, postings, contracts_of, value_of, open_contracts, counted, value}
+use Rattle.tally.specs.Logs.{Side, bought, sold, marked_by, ended_by, is_marking, designation_in, closed, trades, designations, final_price, by_trade, by_designation, at_expiry, postings, contracts_of, value_of, open_contracts}
 use Rattle.tally.specs.Questions.{questions, verdict, is_due}
 use Rattle.tally.specs.Runs.{Entry, answer, page_of, rows_of, designation_of, fed, entry}
 use Rattle.tally.specs.Steps.{entered, fed_oldest, fed_marking, fed_designation, fed_expiry, paired}
 use Rattle.tally.proofs.Facts.{met}
 use Rattle.tally.proofs.Numbered.{each, prices_each}
 use Rattle.tally.proofs.Positions.{sum_replicate}
-use Rattle.tally.proofs.Pushes.{markings_push, trades_push, own_trades, designations_push, last_push, final_push, or_else, closed_push, closed_all, contracts_append, value_append, prices_count, prices_value}
+use Rattle.tally.proofs.Pushes.{markings_push, trades_push, own_trades, designations_push, last_push, final_push, or_else, closed_all, contracts_append, value_append, prices_count, prices_value}
 use Rattle.tally.proofs.Sound.{Sound, finds_lot}
-use Rattle.tally.proofs.Told.{Told, Running, Ended, Silent, side_of, silent_told, markings_same, last_same, closed_same, final_same, postings_same, trades_same}
+use Rattle.tally.proofs.Told.{Told, Running, Silent, side_of, silent_told, markings_same, last_same, closed_same, final_same, postings_same, trades_same}
 
 never : (b : Bool) → b ≡ true → b ≡ false → ⊥
 never b p q = false≢true (sym q ∙ p)

@@ -1,22 +1,12 @@
 -- Log and tally count the same contracts.
-use Rattle.std.proofs.Common.{◌≡◌, ℕ, ◌+◌, ◌*◌, ◌<◌, ◌≤◌, Bool, true, false, cond, not, ◌&&◌, eqb, leb, List, [], ◌∷◌, ◌++◌, map, length, replicate, ℤ, pos, ◌-ℤ◌, Some, None, sum, Option, sym, refl, ap, ◌∙◌, arith}
-use Rattle.std.proofs.lemmas.List.{append_assoc, append-nil, map-append, length-replicate}
-use Rattle.std.proofs.lemmas.Bool.{and_parts, leb-true, eqb-true, not-true, false≢true}
-use Rattle.tally.specs.declared.rows.Trade.{Trade}
-use Rattle.tally.specs.declared.rows.Lot.{Lot}
-use Rattle.tally.specs.declared.rows.Notice.{Notice}
-use Rattle.tally.specs.declared.rows.Designation.{Designation}
+use Rattle.std.proofs.Common.{◌≡◌, ℕ, ◌+◌, ◌*◌, Bool, true, false, cond, List, [], ◌∷◌, ◌++◌, map, length, pos, ◌-ℤ◌, Some, None, Option, sym, refl, ap, ◌∙◌, arith}
+use Rattle.std.proofs.lemmas.List.{append-nil}
 use Rattle.tally.specs.declared.call.Marking.{Marking}
-use Rattle.tally.specs.declared.call.Registration.{Registration}
-use Rattle.tally.specs.Account.{long, short, net}
-use Rattle.tally.specs.Book.{Terms, Tally, View, Posting, numbered, prices, buy, sell, buys, sells, carried, seen}
+use Rattle.tally.specs.Book.{Terms, Tally, Posting}
 use Rattle.tally.specs.Law.{Registered}
-use Rattle.tally.specs.Logs.{Side, bought, sold, is_accepted, marked_by, ended_by, is_marking, designation_in, markings, closed, trades, designations, last_marked, settlement_price, settlement_rate, final_price, by_trade, by_designation, at_expiry, postings, contracts_of, value_of, open_contracts, counted, value}
+use Rattle.tally.specs.Logs.{Side, bought, sold, marked_by, ended_by, is_marking, designation_in, markings, closed, trades, designations, last_marked, settlement_price, settlement_rate, final_price, by_trade, by_designation, at_expiry, postings, contracts_of, value_of, open_contracts, counted, value}
 use Rattle.tally.specs.Runs.{Entry}
-use Rattle.tally.specs.Steps.{fed_marking, fed_designation, fed_expiry, paired}
-use Rattle.tally.proofs.Numbered.{each, prices_each}
-use Rattle.tally.proofs.Positions.{sum_replicate}
-use Rattle.tally.proofs.Pushes.{markings_push, trades_push, own_trades, designations_push, last_push, final_push, or_else, closed_push, closed_all, contracts_append, value_append, prices_count, prices_value}
+use Rattle.tally.proofs.Pushes.{markings_push, trades_push, own_trades, designations_push, last_push, final_push, or_else, closed_push}
 
 -- one side of the tally
 abbrev pub side_of : Side → Tally → List Posting

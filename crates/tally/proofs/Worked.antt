@@ -1,5 +1,5 @@
 -- The worked runs compute.
-use Rattle.std.proofs.Common.{◌≡◌, refl}
+use Rattle.std.proofs.Common.{refl}
 use Rattle.money.specs.Nearest.{nearest}
 use Rattle.money.specs.Pays.{paid_of}
 use Rattle.tally.specs.Account.{net, position, above, offset, day_trade, margin}

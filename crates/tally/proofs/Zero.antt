@@ -1,25 +1,18 @@
 -- The totals of a balanced tally sum to zero.
-use Rattle.std.proofs.Common.{◌≡◌, ℕ, ◌+◌, ◌*◌, ◌<◌, ◌≤◌, min, Bool, true, false, cond, eqb, List, [], ◌∷◌, ◌++◌, map, length, replicate, ℤ, pos, ◌+ℤ◌, ◌-ℤ◌, ◌*ℤ◌, sum_by, sum, sym, refl, ap, ◌∙◌, ⊎_elim, arith}
-use borrow.Author.Differences.{up, down, sum_is_lem, neg_is, product_is, same_in, ints}
+use Rattle.std.proofs.Common.{◌≡◌, ℕ, ◌+◌, ◌*◌, ◌<◌, ◌≤◌, true, false, cond, eqb, List, [], ◌∷◌, ◌++◌, length, replicate, pos, sum_by, sum, sym, refl, ap, ◌∙◌, ⊎_elim, arith}
+use borrow.Author.Differences.{up, down, sum_is_lem, same_in}
 use Rattle.std.specs.List.{AllByRecursion as All}
 use Rattle.std.proofs.lemmas.List.{length-append, length-replicate}
 use Rattle.std.proofs.lemmas.List.Sums.{sum_by-cons, sum_by-append}
 use Rattle.std.proofs.lemmas.Bool.{eq-eqb, ne_eqb, cases_eq}
-use Rattle.tally.specs.declared.rows.Account.{Account}
-use Rattle.tally.specs.declared.rows.Trade.{Trade}
-use Rattle.tally.specs.declared.rows.Lot.{Lot}
-use Rattle.tally.specs.declared.rows.Notice.{Notice}
-use Rattle.tally.specs.declared.call.Registration.{Registration}
-use Rattle.tally.specs.declared.call.Notification.{Notification}
-use Rattle.tally.specs.declared.call.Marking.{Marking}
-use Rattle.tally.specs.Account.{net, position}
-use Rattle.tally.specs.Book.{Posting, Tally, View, numbered, prices, carried, account, seen}
+use Rattle.tally.specs.Account.{position}
+use Rattle.tally.specs.Book.{Posting, Tally, numbered, prices, account, seen}
 use Rattle.tally.specs.Law.{Registered, totals}
 use Rattle.tally.specs.Pages.{sumℤ}
 use Rattle.tally.proofs.Balance.{contracts, worth_of, Balanced}
 use Rattle.tally.proofs.Ring.{times}
 use Rattle.tally.proofs.Positions.{position_is, sum_replicate}
-use Rattle.tally.proofs.Numbered.{map_numbered, numbered_same}
+use Rattle.tally.proofs.Numbered.{map_numbered}
 
 -- what account k has of f
 pub share : (Posting → ℕ) → ℕ → List Posting → ℕ

@@ -1,8 +1,6 @@
 -- What a book shows, and the tally of what was bought and sold.
-use Rattle.std.specs.Prelude.{ℕ, ◌+◌, Bool, cond, List, [], ◌∷◌, ◌++◌, map, length, replicate, ℤ, pos, ◌==◌}
+use Rattle.std.specs.Prelude.{ℕ, ◌+◌, Bool, cond, List, [], ◌∷◌, ◌++◌, map, length, replicate, ℤ, ◌==◌}
 use Rattle.money.specs.declared.currency.Currency.{Currency}
-use Rattle.money.specs.declared.currency.Residency.{Residency}
-use Rattle.tally.specs.declared.rows.Identity.{Identity}
 use Rattle.tally.specs.declared.rows.Account.{Account}
 use Rattle.tally.specs.declared.rows.Trade.{Trade}
 use Rattle.tally.specs.declared.rows.Lot.{Lot}

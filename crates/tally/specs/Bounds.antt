@@ -1,5 +1,5 @@
 -- No number of a run is large: what an engine with tables of fixed size and 64-bit numbers relies on.
-use Rattle.std.specs.Prelude.{◌≡◌, ℕ, ◌+◌, ◌*◌, ◌<◌, ◌≤◌, Bool, true, false, cond, List, length, ℤ, Some, None, count_by, unsigned_abs}
+use Rattle.std.specs.Prelude.{◌≡◌, ℕ, ◌+◌, ◌*◌, ◌≤◌, true, cond, List, length, ℤ, Some, None, count_by, unsigned_abs}
 use Rattle.std.specs.List.{AllByRecursion as All}
 use Rattle.money.specs.Ranges.{is_price, is_amount}
 use Rattle.tally.specs.declared.rows.Account.{Account}

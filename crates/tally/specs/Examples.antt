@@ -7,7 +7,6 @@ use Rattle.money.specs.declared.currency.Currency.TheVariants.{Dollar}
 use Rattle.money.specs.declared.currency.Residency.{Residency}
 use Rattle.money.specs.declared.currency.Residency.TheVariants.{Resident, Nonresident}
 use Rattle.tally.specs.declared.rows.PageRow.{PageRow}
-use Rattle.tally.specs.declared.rows.Sums.{Sums}
 use Rattle.tally.specs.declared.rows.Trade.{Trade}
 use Rattle.tally.specs.declared.call.Registration.{Registration}
 use Rattle.tally.specs.declared.call.Notification.{Notification}
@@ -19,7 +18,7 @@ use Rattle.tally.specs.Book.{Terms, View}
 use Rattle.tally.specs.Events.{Event, registering, trading, quoting, noticing, designating, marking, expiring}
 use Rattle.tally.specs.Questions.{questions}
 use Rattle.tally.specs.Refusals.{refusal_number}
-use Rattle.tally.specs.Runs.{Entry, log}
+use Rattle.tally.specs.Runs.{log}
 
 -- a mini Arabica book with two sessions
 abbrev pub mini : Terms

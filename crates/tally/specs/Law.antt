@@ -1,5 +1,5 @@
 -- The settlement law: what holds of every run of calls, over its log.
-use Rattle.std.specs.Prelude.{◌≡◌, ℕ, ◌+◌, ◌<◌, ◌≤◌, Bool, true, false, List, [], ◌∷◌, ◌++◌, map, length, ℤ, pos, ◌+ℤ◌, ◌-ℤ◌, ◌*ℤ◌, Some, None, Option, ◌≢◌}
+use Rattle.std.specs.Prelude.{◌≡◌, ℕ, ◌+◌, ◌<◌, ◌≤◌, true, false, List, [], ◌∷◌, ◌++◌, map, length, ℤ, pos, ◌+ℤ◌, ◌-ℤ◌, ◌*ℤ◌, Some, None, ◌≢◌}
 use Rattle.std.specs.List.{AllByRecursion as All}
 use Rattle.money.specs.Bound.{Allowed}
 use Rattle.tally.specs.declared.rows.Lot.{Lot}

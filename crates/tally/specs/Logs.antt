@@ -1,5 +1,5 @@
 -- What a log tells, in the words of the trade and without the steps of a book.
-use Rattle.std.specs.Prelude.{ℕ, ◌+◌, ◌*◌, Bool, true, false, cond, ◌&&◌, ltb, List, [], ◌∷◌, ◌++◌, map, replicate, ℤ, pos, ◌-ℤ◌, Some, None, count_by, filter, Option, ◌==◌, nat_lt}
+use Rattle.std.specs.Prelude.{ℕ, ◌+◌, ◌*◌, Bool, true, false, cond, ltb, List, [], ◌∷◌, ◌++◌, map, replicate, ℤ, pos, ◌-ℤ◌, Some, None, filter, Option, ◌==◌, nat_lt}
 use Rattle.tally.specs.declared.rows.Trade.{Trade}
 use Rattle.tally.specs.declared.rows.Notice.{Notice}
 use Rattle.tally.specs.declared.rows.Designation.{Designation}

@@ -1,5 +1,5 @@
 -- The questions that a call goes through, in order, and the refusal of the first that is not met.
-use Rattle.std.specs.Prelude.{ℕ, ◌+◌, ◌-◌, ◌%◌, Bool, true, false, cond, not, ◌&&◌, ◌||◌, List, [], ◌∷◌, length, replicate, ℤ, pos, ◌+ℤ◌, ◌-ℤ◌, Some, None, Ok, Err, count_by, Option, ◌==◌, nat_le, nat_lt, slice_index_or}
+use Rattle.std.specs.Prelude.{ℕ, ◌+◌, ◌-◌, ◌%◌, Bool, true, false, cond, not, ◌&&◌, ◌||◌, List, [], ◌∷◌, length, ℤ, pos, ◌+ℤ◌, ◌-ℤ◌, Some, None, Ok, Err, count_by, Option, ◌==◌, nat_le, nat_lt, slice_index_or}
 use Rattle.std.specs.Str.{bytes_eq}
 use Rattle.money.specs.Ranges.{is_price, is_rate}
 use Rattle.money.specs.declared.currency.Residency.TheVariants.{Resident}
@@ -11,7 +11,7 @@ use Rattle.tally.specs.declared.rows.Trade.{Trade}
 use Rattle.tally.specs.declared.rows.Lot.{Lot}
 use Rattle.tally.specs.declared.rows.Notice.{Notice}
 use Rattle.tally.specs.declared.refusal.Refusal.{Refusal}
-use Rattle.tally.specs.declared.refusal.Refusal.TheVariants.{Unbuildable, Closed, AccountsFull, Unidentifiable, Registered, Stranger, Unpriced, Uncounted, SheetFull, OverLimit, Uncovered, LastSession, LotsFull, Unquoted, OutsideWindow, NotShort, NoticesFull, NoneDue, NoticeDue, Unrated, PageShort, NotExpiring, NoFinalPrice}
+use Rattle.tally.specs.declared.refusal.Refusal.TheVariants.{Closed, AccountsFull, Unidentifiable, Registered, Stranger, Unpriced, Uncounted, SheetFull, OverLimit, Uncovered, LastSession, LotsFull, Unquoted, OutsideWindow, NotShort, NoticesFull, NoneDue, NoticeDue, Unrated, PageShort, NotExpiring, NoFinalPrice}
 use Rattle.tally.specs.Account.{long, short}
 use Rattle.tally.specs.Book.{Terms, View, numbered}
 use Rattle.tally.specs.Events.{Event, registering, trading, quoting, noticing, designating, marking, expiring}

@@ -1,5 +1,5 @@
 -- Lots and notices as aged lines: how each counts, and whose it is.
-use Rattle.std.specs.Prelude.{ℕ, refl}
+use Rattle.std.specs.Prelude.{refl}
 use Rattle.aged.specs.Line.{Counting}
 use Rattle.tally.specs.declared.rows.Lot.{Lot}
 use Rattle.tally.specs.declared.rows.Notice.{Notice}

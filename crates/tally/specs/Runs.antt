@@ -1,10 +1,8 @@
 -- Runs: calls one after the other, each picking up where the one before ended.
-use Rattle.std.specs.Prelude.{ℕ, ◌+◌, Bool, true, false, List, [], ◌∷◌, ◌++◌, length, pos, Some, None, fold, Option}
+use Rattle.std.specs.Prelude.{◌+◌, false, List, [], ◌∷◌, length, Some, None, fold, Option}
 use Rattle.tally.specs.declared.rows.Lot.{Lot}
 use Rattle.tally.specs.declared.rows.Notice.{Notice}
 use Rattle.tally.specs.declared.rows.PageRow.{PageRow}
-use Rattle.tally.specs.declared.rows.Designation.{Designation}
-use Rattle.tally.specs.declared.refusal.Refusal.{Refusal}
 use Rattle.tally.specs.declared.call.Answer.{Answer}
 use Rattle.tally.specs.declared.call.Answer.TheVariants.{Refused, Numbered, Accepted, Designated, Paid}
 use Rattle.tally.specs.Book.{Terms, View, Tally, seen}

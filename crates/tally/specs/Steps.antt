@@ -1,18 +1,17 @@
 -- What an accepted call does: to what the book shows, and to the tally.
-use Rattle.std.specs.Prelude.{ℕ, ◌+◌, ◌-◌, min, Bool, true, false, cond, List, [], ◌∷◌, ◌++◌, map, length, ℤ, pos, ◌+ℤ◌, ◌-ℤ◌, Some, None, Option, ◌==◌, nat_lt}
+use Rattle.std.specs.Prelude.{ℕ, ◌+◌, ◌-◌, min, true, cond, List, [], ◌∷◌, ◌++◌, map, ℤ, pos, ◌+ℤ◌, ◌-ℤ◌, Some, None, ◌==◌, nat_lt}
 use Rattle.aged.specs.Line.{append, take_oldest, take_of}
 use Rattle.tally.specs.declared.rows.Account.{Account}
 use Rattle.tally.specs.declared.rows.Trade.{Trade}
 use Rattle.tally.specs.declared.rows.Lot.{Lot}
 use Rattle.tally.specs.declared.rows.Notice.{Notice}
-use Rattle.tally.specs.declared.rows.Designation.{Designation}
 use Rattle.tally.specs.declared.call.Registration.{Registration}
 use Rattle.tally.specs.declared.call.Notification.{Notification}
 use Rattle.tally.specs.declared.call.Marking.{Marking}
 use Rattle.tally.specs.Account.{long, short, net}
-use Rattle.tally.specs.Book.{Terms, View, Tally, Posting, numbered, prices, buys, sells, carried}
+use Rattle.tally.specs.Book.{Terms, View, Tally, numbered, prices, buys, sells, carried}
 use Rattle.tally.specs.Events.{Event, registering, trading, quoting, noticing, designating, marking, expiring}
-use Rattle.tally.specs.Pages.{Listed, Owed, by_marking, by_expiry}
+use Rattle.tally.specs.Pages.{by_marking, by_expiry}
 use Rattle.tally.specs.Questions.{net_of, traded_account}
 use Rattle.tally.specs.Rows.{lot_counting, notice_counting}
 

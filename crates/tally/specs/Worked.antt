@@ -1,5 +1,5 @@
 -- Nine worked lines, over the definitions that the contracts cite.
-use Rattle.std.specs.Prelude.{◌≡◌, ℕ, true, false, List, [], ◌∷◌, length, pos, negsuc, Some, None, nat_le}
+use Rattle.std.specs.Prelude.{◌≡◌, ℕ, true, false, [], ◌∷◌, length, pos, negsuc, Some, None, nat_le}
 use Rattle.money.specs.Pays.{payment, payment_of}
 use Rattle.money.specs.Ranges.{is_rate}
 use Rattle.money.specs.declared.currency.Currency.TheVariants.{Real, Dollar}

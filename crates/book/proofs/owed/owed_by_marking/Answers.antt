@@ -1,5 +1,4 @@
-use Rattle.std.proofs.Common.{◌≡◌, ℕ, ◌≤◌, length, take, drop, ℤ, pos, ◌+ℤ◌, ◌-ℤ◌, ◌*ℤ◌, nat_abs, sum, sym, ap, ◌∙◌, arith, length-drop, w64, to_z, of_z}
-use borrow.Author.Differences.{ints}
+use Rattle.std.proofs.Common.{◌≡◌, ℕ, take, drop, ℤ, pos, ◌+ℤ◌, ◌-ℤ◌, ◌*ℤ◌, sum, ap, ◌∙◌, arith, length-drop, w64}
 use Rattle.std.proofs.lemmas.Int.{to_z-of_z}
 use Rattle.tally.specs.Account.{day_trade, margin, above}
 use Rattle.tally.specs.Book.{prices, buys, sells}

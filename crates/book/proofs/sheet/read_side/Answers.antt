@@ -1,11 +1,8 @@
-use Rattle.std.proofs.Common.{◌≡◌, ℕ, ◌<◌, ◌≤◌, length, get_or, take, ap, arith}
+use Rattle.std.proofs.Common.{arith}
 use Rattle.std.proofs.ByRecursion.{All-get_or}
 use Rattle.tally.specs.declared.rows.Trade.{Trade}
-use Rattle.tally.specs.Book.{prices}
-use Rattle.book.specs.declared.sheet.Side.{Side}
-use Rattle.book.specs.declared.sheet.Side.TheVariants.{Bought, Sold}
-use Rattle.book.specs.Sheets.{Traded, on_side}
-use Rattle.book.proofs.Sides.{Read, read_start, read_next, read_all}
+use Rattle.book.specs.Sheets.{Traded}
+use Rattle.book.proofs.Sides.{read_start, read_next, read_all}
 use Rattle.book.proofs.sheet.read_side.Goals as goal
 
 abbrev blank : Trade

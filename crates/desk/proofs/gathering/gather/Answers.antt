@@ -1,4 +1,4 @@
-use Rattle.std.proofs.Common.{sym, arith, rules}
+use Rattle.std.proofs.Common.{arith, rules}
 use Rattle.desk.proofs.Gathers.{gathered_all, gathered_more, gathered_none}
 use Rattle.desk.proofs.gathering.gather.Goals as goal
 

@@ -1,4 +1,4 @@
-use Rattle.std.proofs.Common.{arith, rules}
+use Rattle.std.proofs.Common.{rules}
 use Rattle.text.proofs.Joins.{put_none}
 use Rattle.desk.proofs.Rows.{row_more, row_cut, row_all}
 use Rattle.desk.proofs.printed.put_rows.Goals as goal

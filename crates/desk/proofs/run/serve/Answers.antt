@@ -1,4 +1,4 @@
-use Rattle.std.proofs.Common.{◌≡◌, ℕ, ◌-◌, take, drop, ap, ◌∙◌, subst}
+use Rattle.std.proofs.Common.{ℕ, take, drop, ap, ◌∙◌, subst}
 use native.Mathlib.Nat.{sub-zero}
 use Rattle.reader.specs.Cuts.{lines}
 use Rattle.text.specs.Puts.{Puts}

@@ -1,4 +1,4 @@
-use Rattle.std.proofs.Common.{◌≡◌, ◌≤◌, [], length, drop, sym, refl, ap, ◌∙◌, subst, arith, rules}
+use Rattle.std.proofs.Common.{◌≡◌, [], length, drop, subst, arith, rules}
 use Rattle.reader.specs.Cuts.{lines}
 use Rattle.text.specs.Puts.{Puts, Put}
 use Rattle.desk.specs.Openings.{Built}

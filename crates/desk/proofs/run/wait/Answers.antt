@@ -1,4 +1,4 @@
-use Rattle.std.proofs.Common.{◌≡◌, ◌≤◌, [], length, drop, sym, refl, subst, arith, rules}
+use Rattle.std.proofs.Common.{◌≡◌, ◌≤◌, length, drop, sym, refl, subst, arith, rules}
 use Rattle.reader.specs.Cuts.{lines}
 use Rattle.desk.proofs.Growing.{begun, grown, retold, too_long}
 use Rattle.desk.proofs.Steps.{fewer_left, waited_all, waited_more, waited_over, waited_step}

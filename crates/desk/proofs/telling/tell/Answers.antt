@@ -1,7 +1,6 @@
-use Rattle.std.proofs.Common.{◌≡◌, ◌+◌, [], length, drop, sym, refl, ap, ◌∙◌, append-nil, arith, rules}
+use Rattle.std.proofs.Common.{◌≡◌, ◌+◌, length, drop, sym, refl, ap, ◌∙◌, arith, rules}
 use Rattle.reader.specs.Cuts.{lines}
 use Rattle.desk.specs.Tellers.{stage}
-use Rattle.desk.specs.Told.{telling}
 use Rattle.desk.proofs.Growing.{begun, grown, retold, too_long, whole_put}
 use Rattle.desk.proofs.Tales.{told_all, told_more, started}
 use Rattle.desk.proofs.telling.tell.Goals as goal

@@ -1,4 +1,4 @@
-use Rattle.std.proofs.Common.{◌∙◌, rules}
+use Rattle.std.proofs.Common.{rules}
 use Rattle.desk.proofs.Tops.{take_least}
 use Rattle.desk.proofs.telling.top.Goals as goal
 

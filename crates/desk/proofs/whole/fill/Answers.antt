@@ -1,4 +1,4 @@
-use Rattle.std.proofs.Common.{◌≡◌, ◌∙◌, arith, length-take}
+use Rattle.std.proofs.Common.{◌∙◌, arith, length-take}
 use Rattle.desk.proofs.Tops.{top_put}
 use Rattle.desk.proofs.whole.fill.Goals as goal
 

@@ -1,4 +1,4 @@
-use Rattle.std.proofs.Common.{min, arith}
+use Rattle.std.proofs.Common.{arith}
 use borrow.Author.Differences.{ints}
 use Rattle.tally.specs.Account.{offset}
 use Rattle.ledger.proofs.owed.owed_to.Goals as goal

@@ -1,11 +1,8 @@
-use Rattle.std.proofs.Common.{◌≡◌, ℕ, ◌<◌, ◌≤◌, length, get_or, take, ap, arith}
+use Rattle.std.proofs.Common.{arith}
 use Rattle.std.proofs.ByRecursion.{All-get_or}
 use Rattle.tally.specs.declared.rows.Trade.{Trade}
-use Rattle.tally.specs.Book.{prices}
-use Rattle.ledger.specs.declared.sheet.Side.{Side}
-use Rattle.ledger.specs.declared.sheet.Side.TheVariants.{Bought, Sold}
-use Rattle.ledger.specs.Sheets.{Traded, on_side}
-use Rattle.ledger.proofs.Sides.{Read, read_start, read_next, read_all}
+use Rattle.ledger.specs.Sheets.{Traded}
+use Rattle.ledger.proofs.Sides.{read_start, read_next, read_all}
 use Rattle.ledger.proofs.sheet.read_side.Goals as goal
 
 abbrev blank : Trade

@@ -1,11 +1,11 @@
-use Rattle.std.proofs.Common.{◌≡◌, ℕ, ◌+◌, ◌<◌, ◌≤◌, [], ◌∷◌, ◌++◌, length, take, sym, refl, ◌∙◌, subst, arith}
+use Rattle.std.proofs.Common.{◌≡◌, ◌+◌, [], ◌∷◌, ◌++◌, take, sym, refl, subst, arith}
 use mathlib.Core.Logic.{∥∥₁_map}
 use Rattle.tally.specs.Book.{View}
 use Rattle.tally.specs.Events.{noticing}
 use Rattle.tally.specs.Steps.{done, noticed_in}
 use Rattle.book.specs.Ledgers.{view, terms_of}
 use Rattle.book.specs.Reached.{Reached}
-use Rattle.book.proofs.Noticing.{Room, has_room, appended, entered}
+use Rattle.book.proofs.Noticing.{has_room, appended, entered}
 use Rattle.book.proofs.Reaching.{reach}
 use Rattle.book.proofs.state.Ledger.enter_notice.Goals as goal
 

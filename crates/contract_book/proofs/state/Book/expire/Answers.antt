@@ -1,4 +1,4 @@
-use Rattle.std.proofs.Common.{◌≡◌, length, ap}
+use Rattle.std.proofs.Common.{length, ap}
 use Rattle.tally.specs.Events.{expiring}
 use Rattle.tally.specs.Runs.{after, reply, written}
 use Rattle.ledger.specs.Ledgers.{view, terms_of}

@@ -1,4 +1,4 @@
-use Rattle.std.proofs.Common.{◌≡◌, ap}
+use Rattle.std.proofs.Common.{ap}
 use Rattle.contract_book.proofs.Histories.{goes_on, led}
 use Rattle.contract_book.proofs.state.Book.notify.Goals as goal
 

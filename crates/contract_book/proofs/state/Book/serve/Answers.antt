@@ -1,4 +1,4 @@
-use Rattle.std.proofs.Common.{◌≡◌, ◌≤◌, length, arith}
+use Rattle.std.proofs.Common.{length, arith}
 use Rattle.contract_book.specs.Books.{stand}
 use Rattle.contract_book.specs.Stands.{asked, met}
 use Rattle.contract_book.proofs.Paying.{rows_are, rows_fit}

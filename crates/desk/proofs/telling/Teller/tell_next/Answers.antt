@@ -1,4 +1,4 @@
-use Rattle.std.proofs.Common.{◌≡◌, ◌<◌, length, ◌∙◌, subst, arith, rules}
+use Rattle.std.proofs.Common.{◌<◌, length, ◌∙◌, subst, rules}
 use Rattle.text.specs.Puts.{Puts}
 use Rattle.tally.specs.declared.call.Answer.TheVariants.{Refused}
 use Rattle.tally.specs.declared.call.Answer.{Answer}

@@ -1,11 +1,11 @@
-use Rattle.std.proofs.Common.{◌≡◌, ℕ, ◌+◌, ◌<◌, ◌≤◌, [], ◌∷◌, ◌++◌, length, take, sym, refl, ◌∙◌, subst, arith}
+use Rattle.std.proofs.Common.{◌≡◌, ◌+◌, [], ◌∷◌, ◌++◌, take, sym, refl, subst, arith}
 use mathlib.Core.Logic.{∥∥₁_map}
 use Rattle.tally.specs.Book.{View}
 use Rattle.tally.specs.Events.{noticing}
 use Rattle.tally.specs.Steps.{done, noticed_in}
 use Rattle.ledger.specs.Ledgers.{view, terms_of}
 use Rattle.ledger.specs.Reached.{Reached}
-use Rattle.ledger.proofs.Noticing.{Room, has_room, appended, entered}
+use Rattle.ledger.proofs.Noticing.{has_room, appended, entered}
 use Rattle.ledger.proofs.Reaching.{reach}
 use Rattle.ledger.proofs.state.Ledger.enter_notice.Goals as goal
 
