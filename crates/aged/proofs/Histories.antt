@@ -1,6 +1,6 @@
 -- What holds after any run of operations.
 use Rattle.std.proofs.Common.{◌≡◌, ℕ, ◌+◌, ◌<◌, Bool, true, eqb, List, [], ◌∷◌, ◌++◌, length, filter, sym, refl, ap, ◌∙◌, ⊎_elim, append_assoc, arith}
-use Rattle.std.specs.List.{AllByRecursion as All}
+use Rattle.std.specs.List.{AllByRecursion}
 use Rattle.std.proofs.ByRecursion.{All-push}
 use Rattle.std.proofs.lemmas.List.{append-nil, length-append}
 use Rattle.std.proofs.lemmas.Bool.{cases_eq, both_ways, eqb-true, ne_eqb}
@@ -25,7 +25,7 @@ module _ {R : Type 0} (c : Counting R) (owner : R → ℕ) where
       omega (arith, run_held (after c owner s (takes_of o n)) ops, held_append c s.gone (taken_of c owner o n s.rows), held_parts c (owned_by owner o) (takes c (owned_by owner o) n s.rows))
   run_held s (empties ∷ ops) = omega (arith, run_held (after c owner s empties) ops, held_append c s.gone s.rows)
 
-  run_counts : (s : Standing R) (ops : List (Operation R)) → All (λ x. 0 < c.count x) s.rows → All (λ x. 0 < c.count x) (appended ops) → All (λ x. 0 < c.count x) (run c owner s ops).rows
+  run_counts : (s : Standing R) (ops : List (Operation R)) → AllByRecursion (λ x. 0 < c.count x) s.rows → AllByRecursion (λ x. 0 < c.count x) (appended ops) → AllByRecursion (λ x. 0 < c.count x) (run c owner s ops).rows
   run_counts s [] all new = all
   run_counts s (appends x ∷ ops) all new = run_counts (after c owner s (appends x)) ops (All-push (λ y. 0 < c.count y) s.rows x all new.0) new.1
   run_counts s (takes_oldest n ∷ ops) all new = run_counts (after c owner s (takes_oldest n)) ops (left_counts c every (takes c every n s.rows) all) new
@@ -47,7 +47,7 @@ module _ {R : Type 0} (c : Counting R) (owner : R → ℕ) where
         ∙ append_assoc (units c (filter q gone)) (units c (filter q t)) (units c (filter q left))
         ∙ ap (λ l. units c (filter q gone) ++ l) e
 
-    run_units : (s : Standing R) (ops : List (Operation R)) → All Keeps ops →
+    run_units : (s : Standing R) (ops : List (Operation R)) → AllByRecursion Keeps ops →
         (units c (filter q s.gone) ++ units c (filter q s.rows)) ++ units c (filter q (appended ops))
         ≡ units c (filter q (run c owner s ops).gone) ++ units c (filter q (run c owner s ops).rows)
     run_units s [] all = append-nil (units c (filter q s.gone) ++ units c (filter q s.rows))
@@ -71,7 +71,7 @@ module _ {R : Type 0} (c : Counting R) (owner : R → ℕ) where
         ∙ run_units (after c owner s empties) ops all.1
 
   -- Where all is taken from the oldest, every row's units keep their order.
-  oldest_keeps : (ops : List (Operation R)) → OldestOnly ops → All (Keeps every (λ x n. refl)) ops
+  oldest_keeps : (ops : List (Operation R)) → OldestOnly ops → AllByRecursion (Keeps every (λ x n. refl)) ops
   oldest_keeps [] only = tt
   oldest_keeps (appends x ∷ ops) only = (tt, oldest_keeps ops only)
   oldest_keeps (takes_oldest n ∷ ops) only = (tt, oldest_keeps ops only)
@@ -83,7 +83,7 @@ module _ {R : Type 0} (c : Counting R) (owner : R → ℕ) where
     owned_same o x n = ap (λ k. eqb k o) (whose x n)
 
     -- Another owner's rows are no owner's own, and an owner's own are all of them.
-    owner_keeps : (o : ℕ) (ops : List (Operation R)) → All (Keeps (owned_by owner o) (owned_same o)) ops
+    owner_keeps : (o : ℕ) (ops : List (Operation R)) → AllByRecursion (Keeps (owned_by owner o) (owned_same o)) ops
     owner_keeps o [] = tt
     owner_keeps o (appends x ∷ ops) = (tt, owner_keeps o ops)
     owner_keeps o (takes_oldest n ∷ ops) = (tt, owner_keeps o ops)

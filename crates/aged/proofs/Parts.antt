@@ -1,6 +1,6 @@
 -- What a taking does to the rows, one by one, and what goes and stays then.
 use Rattle.std.proofs.Common.{◌≡◌, ℕ, ◌+◌, ◌-◌, ◌<◌, min, Bool, true, false, cond, eqb, leb, List, [], ◌∷◌, ◌++◌, filter, refl, arith}
-use Rattle.std.specs.List.{AllByRecursion as All}
+use Rattle.std.specs.List.{AllByRecursion}
 use Rattle.std.proofs.lemmas.Bool.{eqb-true, eqb-false, leb-true, leb-false}
 use Rattle.aged.specs.Line.{Counting, held, take_picked, taken_picked}
 use Rattle.aged.specs.Laws.{Takes, SplitByCount}
@@ -48,7 +48,7 @@ module _ {R : Type 0} (c : Counting R) (p : R → Bool) where
   held_gone (split {n = n} {x = x} {rows = rows} mine some gt) = rw (kept_yes p x rows mine) (omega (arith, c.count_recount x n))
 
   -- Rows that all count something are left so.
-  pub left_counts : {n : ℕ} {rows gone left : List R} → Takes c p n rows gone left → All (λ x. 0 < c.count x) rows → All (λ x. 0 < c.count x) left
+  pub left_counts : {n : ℕ} {rows gone left : List R} → Takes c p n rows gone left → AllByRecursion (λ x. 0 < c.count x) rows → AllByRecursion (λ x. 0 < c.count x) left
   left_counts enough all = all
   left_counts ended all = all
   left_counts (passed other h) all = (all.0, left_counts h all.1)

@@ -1,6 +1,6 @@
 -- What holds of every line, whatever happens to it.
 use Rattle.std.specs.Prelude.{◌≡◌, ℕ, ◌+◌, ◌-◌, ◌<◌, ◌≤◌, min, Bool, true, false, List, [], ◌∷◌, ◌++◌, replicate, filter}
-use Rattle.std.specs.List.{AllByRecursion as All}
+use Rattle.std.specs.List.{AllByRecursion}
 use Rattle.aged.specs.Line.{Counting, held, rows_of, held_by, take_picked, taken_picked}
 use Rattle.aged.specs.Runs.{Operation, start, run, appended, OldestOnly}
 
@@ -33,7 +33,7 @@ InOrderByOwner {R} c owner = (o : ℕ) (ops : List (Operation R)) →
 -- No row stands that counts nothing, if none was put in.
 abbrev pub ClosedUp : {R : Type 0} → Counting R → Type 0
 ClosedUp {R} c = (owner : R → ℕ) (ops : List (Operation R)) →
-    All (λ x. 0 < c.count x) (appended ops) → All (λ x. 0 < c.count x) (run c owner start ops).rows
+    AllByRecursion (λ x. 0 < c.count x) (appended ops) → AllByRecursion (λ x. 0 < c.count x) (run c owner start ops).rows
 
 -- How n is taken, row by row from the oldest: the rows, those that go, and those that are left.
 -- A row that is not picked stays as it is. A row picked goes as it is where n covers it. Where n does not, it is split into a part that goes and a part that stays,

@@ -1,6 +1,6 @@
 -- The views that some run of calls leads to.
 use Rattle.std.specs.Prelude.{◌≡◌, ℕ, Bool, List, Some, None, Ok, Err, Option, Result}
-use Rattle.std.specs.List.{AllByRecursion as All}
+use Rattle.std.specs.List.{AllByRecursion}
 use Rattle.tally.specs.declared.refusal.Refusal.{Refusal}
 use Rattle.money.specs.declared.currency.Currency.{Currency}
 use Rattle.tally.specs.declared.rows.Account.{Account}
@@ -17,7 +17,7 @@ use Rattle.tally.specs.Runs.{shown}
 pub record Reached (c : Terms) (v : View) : Type 0 where
   pub buildable : Buildable c
   pub calls : List Event
-  pub priced : All FinalPriced calls
+  pub priced : AllByRecursion FinalPriced calls
   pub shows : v ≡ shown c calls
 
 -- a view by its parts

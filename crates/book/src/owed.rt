@@ -1,6 +1,6 @@
 // What a marking owes one account.
 ghost use Rattle.std.specs.Prelude.{◌≡◌, ℕ, ◌+◌, ◌-◌, ◌*◌, ◌<◌, ◌≤◌, length, pos, ◌+ℤ◌, ◌-ℤ◌, ◌*ℤ◌, unsigned_abs};
-ghost use Rattle.std.specs.List.{AllByRecursion as All};
+ghost use Rattle.std.specs.List.{AllByRecursion};
 ghost use Rattle.tally.specs.Account.{day_trade, margin, offset as offset_of};
 ghost use Rattle.tally.specs.Book.{prices, buys, sells};
 ghost use Rattle.book.specs.Sheets.{Traded, Counted};
@@ -90,7 +90,7 @@ pub(crate) fn owed_by_marking(
     price: u64,
 ) -> Owed
     requires short { length sheet.now ≤ 1024 }
-    requires traded { All Traded sheet.now }
+    requires traded { AllByRecursion Traded sheet.now }
     requires carried { unsigned_abs carried ≤ 3000 }
     requires size { size ≤ 100 }
     requires prices { (price ≤ 999999) × (last ≤ 999999) }

@@ -3,7 +3,7 @@ use Rattle.std.proofs.Common.{◌≡◌, ℕ, ◌-◌, ◌≤◌, true, List, []
 use mathlib.Core.Logic.{∥∥₁_elim}
 use native.Mathlib.Bridge.{le_prop}
 use borrow.Author.Differences.{ints}
-use Rattle.std.specs.List.{AllByRecursion as All}
+use Rattle.std.specs.List.{AllByRecursion}
 use Rattle.std.proofs.lemmas.Bool.{false≢true, ltb-true}
 use Rattle.aged.specs.Line.{first, take_oldest}
 use Rattle.tally.specs.declared.call.Answer.TheVariants.{Designated}
@@ -34,7 +34,7 @@ no_first e = let z : ◌≡◌ {A = ℕ} 0 1 = cc in omega arith
 the_first : {X : Type 0} {x y : X} → ◌≡◌ {A = Option X} (Some x) (Some y) → x ≡ y
 the_first e = cc
 
-first_in : {X : Type 0} (P : X → Type 0) (xs : List X) (x : X) → All P xs → first xs ≡ Some x → P x
+first_in : {X : Type 0} (P : X → Type 0) (xs : List X) (x : X) → AllByRecursion P xs → first xs ≡ Some x → P x
 first_in P [] x h e = absurd (no_first e)
 first_in P (y ∷ ys) x h e = subst P (the_first e) h.0
 

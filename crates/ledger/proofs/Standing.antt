@@ -3,7 +3,7 @@ use Rattle.std.proofs.Common.{◌≡◌, ℕ, ◌+◌, ◌-◌, ◌*◌, ◌<◌
 use mathlib.Core.Logic.{∥∥₁_elim}
 use native.Mathlib.Bridge.{le_prop}
 use borrow.Author.Differences.{ints}
-use Rattle.std.specs.List.{AllByRecursion as All}
+use Rattle.std.specs.List.{AllByRecursion}
 use Rattle.std.proofs.lemmas.Nat.{mul-le}
 use Rattle.std.proofs.ByRecursion.{All-get_or, All-from_get_or}
 use Rattle.std.proofs.lemmas.Bool.{and_parts, cond_both, leb-true}
@@ -83,7 +83,7 @@ module _ (l : Ledger) where
   abbrev no_trade : Trade
   no_trade = record { buyer = 0; seller = 0; price = 0; contracts = 0 }
 
-  pub sheet_traded : All Traded (view l).sheet
+  pub sheet_traded : AllByRecursion Traded (view l).sheet
   sheet_traded = All-from_get_or Traded (view l).sheet no_trade (λ i lt. (
     known (λ b. (All-get_or (TradeBounded (length (view l).accounts)) (view l).sheet i no_trade lt b.trades_in).2),
     known (λ b. (All-get_or (TradeBounded (length (view l).accounts)) (view l).sheet i no_trade lt b.trades_in).4),
@@ -137,14 +137,14 @@ module _ (l : Ledger) where
     fits Marking price e = marking_fits price e
     fits Expiry price e = expiry_fits price e
 
-  pub accounts_in : All AccountIn (view l).accounts
+  pub accounts_in : AllByRecursion AccountIn (view l).accounts
   accounts_in = All-from_get_or AccountIn (view l).accounts nobody account_in
 
-  pub contracts_in : All ContractsIn (view l).accounts
+  pub contracts_in : AllByRecursion ContractsIn (view l).accounts
   contracts_in = All-from_get_or ContractsIn (view l).accounts nobody (λ i lt. (account_in i lt).0)
 
   -- what a page owes fits its lines
-  pub owed_fits : (s : Settling) (price : ℕ) → is_price price ≡ true → All OwedIn (owed_by l s price)
+  pub owed_fits : (s : Settling) (price : ℕ) → is_price price ≡ true → AllByRecursion OwedIn (owed_by l s price)
   owed_fits s price e =
       let f = owed_at s l.terms.size (view l).sheet l.price price in
       let none : Owed = record { day_trade = pos 0; margin = pos 0 } in

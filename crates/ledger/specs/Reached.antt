@@ -1,6 +1,6 @@
 -- The views that some run of calls leads to.
 use Rattle.std.specs.Prelude.{◌≡◌, ℕ, ◌≤◌, Bool, List}
-use Rattle.std.specs.List.{AllByRecursion as All}
+use Rattle.std.specs.List.{AllByRecursion}
 use Rattle.money.specs.declared.currency.Currency.{Currency}
 use Rattle.tally.specs.declared.rows.Account.{Account}
 use Rattle.tally.specs.declared.rows.Trade.{Trade}
@@ -17,7 +17,7 @@ pub record Reached (c : Terms) (v : View) : Type 0 where
   pub buildable : Buildable c
   pub ticked : 1 ≤ c.tick
   pub calls : List Event
-  pub priced : All FinalPriced calls
+  pub priced : AllByRecursion FinalPriced calls
   pub shows : v ≡ shown c calls
 
 -- a view by its parts

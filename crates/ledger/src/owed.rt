@@ -1,6 +1,6 @@
 // What a marking or an expiry owes each account.
 ghost use Rattle.std.specs.Prelude.{◌≡◌, ℕ, ◌+◌, ◌-◌, ◌*◌, ◌<◌, ◌≤◌, length, take, pos, ◌+ℤ◌, ◌-ℤ◌, ◌*ℤ◌, slice_index_or, unsigned_abs};
-ghost use Rattle.std.specs.List.{AllByRecursion as All};
+ghost use Rattle.std.specs.List.{AllByRecursion};
 ghost use Rattle.tally.specs.Account.{day_trade, margin, offset as offset_of};
 ghost use Rattle.tally.specs.Book.{prices, buys, sells};
 ghost use Rattle.ledger.specs.Owings.{ContractsIn, Dealt, expiry_owed, owed_at};
@@ -100,7 +100,7 @@ pub(crate) fn owed_by_marking(
     price: u64,
 ) -> Owed
     requires short { length sheet.now ≤ 1024 }
-    requires traded { All Traded sheet.now }
+    requires traded { AllByRecursion Traded sheet.now }
     requires carried { unsigned_abs carried ≤ 3000 }
     requires size { size ≤ 100 }
     requires prices { (price ≤ 999999) × (last ≤ 999999) }
@@ -149,7 +149,7 @@ fn owed_to(
     price: u64,
 ) -> Owed
     requires short { length sheet.now ≤ 1024 }
-    requires traded { All Traded sheet.now }
+    requires traded { AllByRecursion Traded sheet.now }
     requires contracts { ContractsIn account }
     requires dealt { Dealt sheet.now number account }
     requires size { size ≤ 100 }
@@ -176,8 +176,8 @@ pub(crate) fn owed_to_all(
 ) -> [Owed; 64]
     requires few { length accounts.now ≤ 64 }
     requires short { length sheet.now ≤ 1024 }
-    requires traded { All Traded sheet.now }
-    requires contracts { All ContractsIn accounts.now }
+    requires traded { AllByRecursion Traded sheet.now }
+    requires contracts { AllByRecursion ContractsIn accounts.now }
     requires dealt { (i : ℕ) → i < length accounts.now → Dealt sheet.now (i + 1) (slice_index_or accounts.now i nobody) }
     requires size { size ≤ 100 }
     requires prices { (price ≤ 999999) × (last ≤ 999999) }

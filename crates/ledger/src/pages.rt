@@ -1,7 +1,7 @@
 // Paying a page: two lines for each account, and what they come to.
 ghost use Rattle.std.specs.Prelude.{◌≡◌, ◌+◌, ◌≤◌, length, unsigned_abs};
 ghost use Rattle.std.specs.Simd.Lanes.{zip2};
-ghost use Rattle.std.specs.List.{AllByRecursion as All};
+ghost use Rattle.std.specs.List.{AllByRecursion};
 ghost use Rattle.money.specs.Pays.{payment_of};
 ghost use Rattle.tally.specs.Pages.{paid_as, sums as sums_of};
 ghost use Rattle.ledger.specs.Owings.{OwedIn, PaidIn, SumsIn, lines_to, row_to, plus_line};
@@ -60,7 +60,7 @@ pub(crate) fn pay_page(
 ) -> Sums
     requires few { length accounts.now ≤ 64 }
     requires beside { length owed.now ≡ length accounts.now }
-    requires owed { All OwedIn owed.now }
+    requires owed { AllByRecursion OwedIn owed.now }
     requires page { length accounts.now ≤ length page.old }
     ensures page { page.new ≡ over (zip2 (row_to currency rate.millionths) accounts.now owed.now) page.old }
     ensures sums { result ≡ sums_of (lines_to currency rate.millionths accounts.now owed.now) }

@@ -1,7 +1,7 @@
 // What a page leaves of the accounts.
 ghost use Rattle.std.specs.Prelude.{◌≡◌, ◌+◌, ◌≤◌, length, take, ◌+ℤ◌, unsigned_abs};
 ghost use Rattle.std.specs.Simd.Lanes.{zip2};
-ghost use Rattle.std.specs.List.{AllByRecursion as All};
+ghost use Rattle.std.specs.List.{AllByRecursion};
 ghost use Rattle.ledger.specs.Owings.{AccountIn, OwedIn, settled_with};
 ghost use Rattle.ledger.specs.Told.{over};
 
@@ -41,8 +41,8 @@ fn settled(account: Account, owed: Owed, settling: Settling) -> Account
 // Writes the row of each account that is owed something.
 pub(crate) fn settle_accounts(accounts: &mut [Account], owed: &[Owed], settling: Settling)
     requires few { length owed.now ≤ length accounts.old }
-    requires accounts { All AccountIn (take (length owed.now) accounts.old) }
-    requires owed { All OwedIn owed.now }
+    requires accounts { AllByRecursion AccountIn (take (length owed.now) accounts.old) }
+    requires owed { AllByRecursion OwedIn owed.now }
     ensures { accounts.new ≡ over (zip2 (settled_with settling) (take (length owed.now) accounts.old) owed.now) accounts.old }
 {
     for i in 0..owed.len() {

@@ -1,6 +1,6 @@
 // The day sheet, read for one account and one side.
 ghost use Rattle.std.specs.Prelude.{◌≡◌, ℕ, ◌+◌, ◌-◌, ◌*◌, ◌<◌, ◌≤◌, min, length, take, drop, sum};
-ghost use Rattle.std.specs.List.{AllByRecursion as All};
+ghost use Rattle.std.specs.List.{AllByRecursion};
 ghost use Rattle.tally.specs.Book.{prices};
 ghost use Rattle.ledger.specs.Sheets.{Traded, on_side, party_to, contracts_on};
 
@@ -61,7 +61,7 @@ fn worth(price: u64, contracts: u64) -> u64
 // Splits one side of the sheet for an account: the first `offset` contracts offset, the others are left. One pass.
 pub(crate) fn read_side(sheet: &[Trade], account: usize, side: Side, offset: u64) -> Split
     requires short { length sheet.now ≤ 1024 }
-    requires traded { All Traded sheet.now }
+    requires traded { AllByRecursion Traded sheet.now }
     ensures offset { result.offset.contracts ≡ min offset (length (prices account (on_side side sheet.now))) }
     ensures offset_value { result.offset.value ≡ sum (take offset (prices account (on_side side sheet.now))) }
     ensures left { result.left.contracts ≡ length (drop offset (prices account (on_side side sheet.now))) }

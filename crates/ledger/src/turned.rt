@@ -1,6 +1,6 @@
 // The lots as a marking turns them: what an account is left long of.
 ghost use Rattle.std.specs.Prelude.{◌≡◌, cond, ◌+◌, ◌<◌, ◌≤◌, ltb, map, length, take, if◌then◌else◌, count_by, nat_lt, unsigned_abs};
-ghost use Rattle.std.specs.List.{AllByRecursion as All};
+ghost use Rattle.std.specs.List.{AllByRecursion};
 ghost use Rattle.tally.specs.Account.{long};
 ghost use Rattle.tally.specs.Questions.{opens_lot};
 ghost use Rattle.tally.specs.Steps.{aged as aged_by, turned as turned_by};
@@ -49,7 +49,7 @@ fn turn_account(
 // Turns the lots of each account, in number order.
 pub(crate) fn turn_lots(accounts: &[Account], session: u32, lots: &mut [Lot], used: &mut usize)
     requires few { length accounts.now ≤ 64 }
-    requires contracts { All ContractsIn accounts.now }
+    requires contracts { AllByRecursion ContractsIn accounts.now }
     requires room { used.old + count_by opens_lot accounts.now ≤ length lots.old }
     ensures lots { take used.new lots.new ≡ turned_by session 1 (map changed accounts.now) (take used.old lots.old) }
     ensures used { used.new ≤ length lots.new }

@@ -1,6 +1,6 @@
 -- The law of the lines. Assumes nothing.
 use Rattle.std.proofs.Common.{◌≡◌, ℕ, zero, suc, ◌+◌, ◌<◌, Bool, true, false, cond, List, [], ◌∷◌, length, get_or, count_by, refl, ap, ◌∙◌, arith}
-use Rattle.std.specs.List.{flat_map, AllByRecursion as All}
+use Rattle.std.specs.List.{flat_map, AllByRecursion}
 use Rattle.std.proofs.lemmas.List.Sums.{sum_by-cons}
 use Rattle.std.proofs.lemmas.Bool.{eqb-true, eqb-false}
 use Rattle.reader.specs.Cuts.{is_newline, last_or, lines, onto_first, unended, LinesLaw}
@@ -22,15 +22,15 @@ covered (b ∷ bs) =
 abbrev Filled : List ℕ → Type 0
 Filled line = 0 < length line
 
-filled_onto : (b : ℕ) (ls : List (List ℕ)) → All Filled ls → All Filled (onto_first b ls)
+filled_onto : (b : ℕ) (ls : List (List ℕ)) → AllByRecursion Filled ls → AllByRecursion Filled (onto_first b ls)
 filled_onto b [] all = (omega arith, tt)
 filled_onto b (l ∷ ls) all = (omega arith, all.1)
 
-filled : (s : List ℕ) → All Filled (lines s)
+filled : (s : List ℕ) → AllByRecursion Filled (lines s)
 unfolding lines
 filled [] = tt
 filled (b ∷ bs) =
-    elim (is_newline b) as (λ t. All Filled (cond t ((b ∷ []) ∷ lines bs) (onto_first b (lines bs)))) [
+    elim (is_newline b) as (λ t. AllByRecursion Filled (cond t ((b ∷ []) ∷ lines bs) (onto_first b (lines bs)))) [
       | true ↦ (omega arith, filled bs)
       | false ↦ filled_onto b (lines bs) (filled bs)
     ]
@@ -43,15 +43,15 @@ ended_more : (b : ℕ) (line : List ℕ) → (b ≡ 10 → ⊥) → Ended line �
 ended_more b line apart end zero h e = apart e
 ended_more b line apart end (suc k) h e = end k (omega arith) e
 
-ended_onto : (b : ℕ) (ls : List (List ℕ)) → (b ≡ 10 → ⊥) → All Ended ls → All Ended (onto_first b ls)
+ended_onto : (b : ℕ) (ls : List (List ℕ)) → (b ≡ 10 → ⊥) → AllByRecursion Ended ls → AllByRecursion Ended (onto_first b ls)
 ended_onto b [] apart all = (λ k h e. omega arith, tt)
 ended_onto b (l ∷ ls) apart all = (ended_more b l apart all.0, all.1)
 
-ended : (s : List ℕ) → All Ended (lines s)
+ended : (s : List ℕ) → AllByRecursion Ended (lines s)
 unfolding lines
 ended [] = tt
 ended (b ∷ bs) =
-    (elim (is_newline b) as (λ t. is_newline b ≡ t → All Ended (cond t ((b ∷ []) ∷ lines bs) (onto_first b (lines bs)))) [
+    (elim (is_newline b) as (λ t. is_newline b ≡ t → AllByRecursion Ended (cond t ((b ∷ []) ∷ lines bs) (onto_first b (lines bs)))) [
       | true ↦ λ is. (λ k h e. omega arith, ended bs)
       | false ↦ λ is. ended_onto b (lines bs) (eqb-false b 10 is) (ended bs)
     ]) refl

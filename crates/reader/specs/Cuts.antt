@@ -1,6 +1,6 @@
 -- How an input falls into lines.
 use Rattle.std.specs.Prelude.{◌≡◌, ℕ, ◌+◌, ◌<◌, Bool, cond, List, [], ◌∷◌, length, count_by, ◌==◌, ◌≢◌, slice_index}
-use Rattle.std.specs.List.{flat_map, AllByRecursion as All}
+use Rattle.std.specs.List.{flat_map, AllByRecursion}
 
 -- the byte that ends a line
 abbrev pub is_newline : ℕ → Bool
@@ -30,8 +30,8 @@ pub record LinesLaw : Type 0 where
   -- every byte of the input lies in a line, in its order
   pub covered : (s : List ℕ) → flat_map (λ line. line) (lines s) ≡ s
   -- no line is empty
-  pub filled : (s : List ℕ) → All (λ line. 0 < length line) (lines s)
+  pub filled : (s : List ℕ) → AllByRecursion (λ line. 0 < length line) (lines s)
   -- a newline is its line's last byte
-  pub ended : (s : List ℕ) → All (λ line. (k : ℕ) → k + 1 < length line → slice_index line k ≢ 10) (lines s)
+  pub ended : (s : List ℕ) → AllByRecursion (λ line. (k : ℕ) → k + 1 < length line → slice_index line k ≢ 10) (lines s)
   -- there are as many lines as newlines, and one more where a piece without one is left
   pub counted : (s : List ℕ) → length (lines s) ≡ count_by is_newline s + unended s

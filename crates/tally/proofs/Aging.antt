@@ -1,19 +1,19 @@
 -- Aged rows: what each owner holds after a change, and what stays true of the rows.
 use Rattle.std.proofs.Common.{◌≡◌, ℕ, ◌+◌, ◌-◌, ◌≤◌, Bool, true, false, cond, eqb, leb, List, [], ◌∷◌, ◌++◌, length, filter, sym, refl, ap, ◌∙◌, arith}
-use Rattle.std.specs.List.{AllByRecursion as All}
+use Rattle.std.specs.List.{AllByRecursion}
 use Rattle.std.proofs.lemmas.Bool.{ne_eqb, eqb-true, leb-true, leb-false, lt-leb}
 use Rattle.std.proofs.lemmas.Bool.Decides.{nat_tests}
 use Rattle.aged.specs.Line.{Counting, held, held_by, owned_by, take_picked, take_oldest, take_of}
 
 -- ---- what stays true of rows when some is taken
 module _ {R : Type 0} (c : Counting R) (picks : R → Bool) where
-  pub all_left : (P : R → Type 0) → ((x : R) (m : ℕ) → 1 ≤ m → m ≤ c.count x → P x → P (c.recount x m)) → (n : ℕ) (rs : List R) → All P rs → All P (take_picked c picks n rs)
+  pub all_left : (P : R → Type 0) → ((x : R) (m : ℕ) → 1 ≤ m → m ≤ c.count x → P x → P (c.recount x m)) → (n : ℕ) (rs : List R) → AllByRecursion P rs → AllByRecursion P (take_picked c picks n rs)
   all_left P stays n [] h = tt
   all_left P stays n (x ∷ rs) h =
-      elim (eqb n 0) as (λ z. All P (cond z (x ∷ rs) (cond (picks x) (cond (leb (c.count x) n) (take_picked c picks (n - c.count x) rs) (c.recount x (c.count x - n) ∷ rs)) (x ∷ take_picked c picks n rs)))) [
+      elim (eqb n 0) as (λ z. AllByRecursion P (cond z (x ∷ rs) (cond (picks x) (cond (leb (c.count x) n) (take_picked c picks (n - c.count x) rs) (c.recount x (c.count x - n) ∷ rs)) (x ∷ take_picked c picks n rs)))) [
         | true ↦ h
-        | false ↦ elim (picks x) as (λ p. All P (cond p (cond (leb (c.count x) n) (take_picked c picks (n - c.count x) rs) (c.recount x (c.count x - n) ∷ rs)) (x ∷ take_picked c picks n rs))) [
-          | true ↦ elim (leb (c.count x) n) as (λ l. leb (c.count x) n ≡ l → All P (cond l (take_picked c picks (n - c.count x) rs) (c.recount x (c.count x - n) ∷ rs))) [
+        | false ↦ elim (picks x) as (λ p. AllByRecursion P (cond p (cond (leb (c.count x) n) (take_picked c picks (n - c.count x) rs) (c.recount x (c.count x - n) ∷ rs)) (x ∷ take_picked c picks n rs))) [
+          | true ↦ elim (leb (c.count x) n) as (λ l. leb (c.count x) n ≡ l → AllByRecursion P (cond l (take_picked c picks (n - c.count x) rs) (c.recount x (c.count x - n) ∷ rs))) [
             | true ↦ λ _. all_left P stays (n - c.count x) rs h.1
             | false ↦ λ e. let lt = leb-false (c.count x) n e in (stays x (c.count x - n) (omega arith) (omega arith) h.0, h.1)
           ] refl

@@ -1,7 +1,7 @@
 -- How large the numbers of a tally can get.
 use Rattle.std.proofs.Common.{◌≡◌, ℕ, zero, suc, ◌+◌, ◌*◌, ◌<◌, ◌≤◌, true, false, cond, ◌&&◌, eqb, leb, List, [], ◌∷◌, ◌++◌, length, replicate, ℤ, pos, ◌+ℤ◌, ◌-ℤ◌, neg_ℤ, None, sum, sym, refl, ap, ◌∙◌, subst, ⊎_elim, mul-le-mul, arith}
 use borrow.Author.Differences.{up, down, sum_is_lem, neg_is}
-use Rattle.std.specs.List.{AllByRecursion as All}
+use Rattle.std.specs.List.{AllByRecursion}
 use Rattle.std.proofs.ByRecursion.{All-append, All-push, All-map, All-weaker, sum_by_le}
 use Rattle.std.proofs.lemmas.List.{length-append}
 use Rattle.std.proofs.lemmas.List.Sums.{sum_by-append}
@@ -46,7 +46,7 @@ abbrev pub TradeIn : Trade → Type 0
 TradeIn w = (w.price ≤ 999999) × (1 ≤ w.contracts) × (w.contracts ≤ 3000)
 
 pub record BoundedTally (t : Tally) : Type 0 where
-  pub trades_in : All TradeIn t.waiting
+  pub trades_in : AllByRecursion TradeIn t.waiting
   pub bought_in : (k : ℕ) → Registered (length t.parties) k → length (prices k (buys t.waiting)) ≤ 3000
   pub sold_in : (k : ℕ) → Registered (length t.parties) k → length (prices k (sells t.waiting)) ≤ 3000
   pub carried_in : (k : ℕ) → Registered (length t.parties) k → Small 3000 (carried t k)
@@ -57,24 +57,24 @@ pub product : (a b m n : ℕ) → a ≤ m → b ≤ n → a * b ≤ m * n
 product a b m n p q = mul-le-mul p q
 
 -- ---- prices of a side of the sheet
-all_replicate : (n p : ℕ) → p ≤ 999999 → All (λ x. x ≤ 999999) (replicate n p)
+all_replicate : (n p : ℕ) → p ≤ 999999 → AllByRecursion (λ x. x ≤ 999999) (replicate n p)
 all_replicate zero p le = tt
 all_replicate (suc n) p le = (le, all_replicate n p le)
 
-prices_in : (k : ℕ) (ps : List Posting) → All (λ p. p.price ≤ 999999) ps → All (λ x. x ≤ 999999) (prices k ps)
+prices_in : (k : ℕ) (ps : List Posting) → AllByRecursion (λ p. p.price ≤ 999999) ps → AllByRecursion (λ x. x ≤ 999999) (prices k ps)
 unfolding prices
 prices_in k [] h = tt
 prices_in k (p ∷ ps) h =
     All-append (λ x. x ≤ 999999) (cond (eqb p.holder k) (replicate p.contracts p.price) []) (prices k ps)
-    (elim (eqb p.holder k) as (λ b. All (λ x. x ≤ 999999) (cond b (replicate p.contracts p.price) [])) [ true ↦ all_replicate p.contracts p.price h.0 | false ↦ tt ])
+    (elim (eqb p.holder k) as (λ b. AllByRecursion (λ x. x ≤ 999999) (cond b (replicate p.contracts p.price) [])) [ true ↦ all_replicate p.contracts p.price h.0 | false ↦ tt ])
     (prices_in k ps h.1)
 
-pub sides_in : (k : ℕ) (ws : List Trade) → All TradeIn ws → All (λ x. x ≤ 999999) (prices k (buys ws)) × All (λ x. x ≤ 999999) (prices k (sells ws))
+pub sides_in : (k : ℕ) (ws : List Trade) → AllByRecursion TradeIn ws → AllByRecursion (λ x. x ≤ 999999) (prices k (buys ws)) × AllByRecursion (λ x. x ≤ 999999) (prices k (sells ws))
 sides_in k ws h =
     let le = All-weaker TradeIn (λ w. w.price ≤ 999999) (λ _ x. x.0) ws h in
     (prices_in k (buys ws) (All-map (λ p. p.price ≤ 999999) buy ws le), prices_in k (sells ws) (All-map (λ p. p.price ≤ 999999) sell ws le))
 
-pub sum_in : (xs : List ℕ) → All (λ x. x ≤ 999999) xs → sum xs ≤ 999999 * length xs
+pub sum_in : (xs : List ℕ) → AllByRecursion (λ x. x ≤ 999999) xs → sum xs ≤ 999999 * length xs
 sum_in xs h = omega (arith, sum_by_le (λ x. x) 999999 xs h)
 
 pub bounded_begun : BoundedTally begun

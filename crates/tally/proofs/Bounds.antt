@@ -1,7 +1,7 @@
 -- No number of a run is large.
 use Rattle.std.proofs.Common.{◌≡◌, ℕ, ◌+◌, ◌-◌, ◌*◌, ◌≤◌, true, false, cond, not, ◌&&◌, eqb, List, [], ◌∷◌, length, get_or, pos, ◌*ℤ◌, nat_abs, Some, None, fold, sym, refl, ap, subst, arith}
 use borrow.Author.Differences.{up, down, product_is, abs_is}
-use Rattle.std.specs.List.{AllByRecursion as All}
+use Rattle.std.specs.List.{AllByRecursion}
 use Rattle.std.proofs.lemmas.Bool.{ltb-true, not-true, and_parts, eq-eqb}
 use Rattle.tally.specs.declared.rows.Trade.{Trade}
 use Rattle.tally.specs.declared.rows.Lot.{Lot}
@@ -71,15 +71,15 @@ module _ (c : Terms) (windows : c.delivers ≡ false → c.closes ≡ 0) (t : Ta
       record { sound = sound_fed c windows t h.sound e; clock = clocked_fed c t h.clock e; small = both.0; roomy = both.1 }
 
 module _ (c : Terms) (windows : c.delivers ≡ false → c.closes ≡ 0) where
-  standing_from : (t : Tally) → Standing c t → (es : List Event) → All FinalPriced es → Standing c (fold (fed c) t es)
+  standing_from : (t : Tally) → Standing c t → (es : List Event) → AllByRecursion FinalPriced es → Standing c (fold (fed c) t es)
   standing_from t h [] f = h
   standing_from t h (e ∷ es) f = standing_from (fed c t e) (standing_fed c windows t h e f.0) es f.1
 
-  standing : (es : List Event) → All FinalPriced es → Standing c (tally c es)
+  standing : (es : List Event) → AllByRecursion FinalPriced es → Standing c (tally c es)
   standing es f = standing_from begun (record { sound = sound_begun c; clock = clocked_begun c; small = bounded_begun; roomy = roomy_begun }) es f
 
 -- ---- rows: none counts more than all that its account has
-trades_fit : (n : ℕ) (ws : List Trade) → All (λ w. Registered n w.buyer × Registered n w.seller) ws → All TradeIn ws → All (TradeBounded n) ws
+trades_fit : (n : ℕ) (ws : List Trade) → AllByRecursion (λ w. Registered n w.buyer × Registered n w.seller) ws → AllByRecursion TradeIn ws → AllByRecursion (TradeBounded n) ws
 trades_fit n [] r h = tt
 trades_fit n (w ∷ ws) r h = ((r.0.0, r.0.1, h.0.0, h.0.1, h.0.2), trades_fit n ws r.1 h.1)
 
@@ -87,14 +87,14 @@ lots_cons : (k : ℕ) (l : Lot) (ls : List Lot) → in_lots k (l ∷ ls) ≡ con
 unfolding in_lots
 lots_cons k l ls = held_cons lot_counting (λ x. x.owner) (λ _ _. refl) k l ls
 
-lots_fit : (n s k open_now : ℕ) (ls : List Lot) → All (λ l. Registered n l.owner) ls → LotsInOrder s k open_now ls → ((j : ℕ) → Registered n j → in_lots j ls ≤ 3000) → All (LotBounded n) ls
+lots_fit : (n s k open_now : ℕ) (ls : List Lot) → AllByRecursion (λ l. Registered n l.owner) ls → LotsInOrder s k open_now ls → ((j : ℕ) → Registered n j → in_lots j ls ≤ 3000) → AllByRecursion (LotBounded n) ls
 lots_fit n s k open_now [] r o le = tt
 lots_fit n s k open_now (l ∷ ls) r o le = (
   (r.0, o.2, omega (arith, le l.owner r.0, lots_cons l.owner l ls, ap (λ b. cond b l.count 0) (eq-eqb l.owner l.owner refl))),
   lots_fit n l.session l.owner open_now ls r.1 o.3 (λ j i. omega (arith, le j i, lots_cons j l ls)),
 )
 
-notices_fit : (n lo hi : ℕ) (ns : List Notice) → All (λ x. Registered n x.seller) ns → Ordered lo hi ns → ((j : ℕ) → Registered n j → under_notice j ns ≤ 3000) → All (NoticeBounded n hi) ns
+notices_fit : (n lo hi : ℕ) (ns : List Notice) → AllByRecursion (λ x. Registered n x.seller) ns → Ordered lo hi ns → ((j : ℕ) → Registered n j → under_notice j ns ≤ 3000) → AllByRecursion (NoticeBounded n hi) ns
 notices_fit n lo hi [] r o le = tt
 notices_fit n lo hi (x ∷ ns) r o le = (
   (r.0, o.2, omega (arith, le x.seller r.0, notices_cons x.seller x ns, ap (λ b. cond b x.count 0) (eq-eqb x.seller x.seller refl)), o.1),
@@ -145,10 +145,10 @@ module _ (c : Terms) (sized : c.size ≤ 100) (t : Tally) (h : Standing c t) whe
         accounts_in = λ k r.
             let own : Registered n k = (r.0, omega (arith, r.1, many)) in
             subst (λ a. AccountBounded c v k a) (sym (shows_account c t k own)) (account_fits k (get_or t.parties (k - 1) someone) own);
-        trades_in = subst (λ i. All (TradeBounded i) t.waiting) (sym many) (trades_fit n t.waiting h.sound.balanced.traders h.small.trades_in);
-        lots_in = subst (λ i. All (LotBounded i) t.lots) (sym many)
+        trades_in = subst (λ i. AllByRecursion (TradeBounded i) t.waiting) (sym many) (trades_fit n t.waiting h.sound.balanced.traders h.small.trades_in);
+        lots_in = subst (λ i. AllByRecursion (LotBounded i) t.lots) (sym many)
             (lots_fit n 0 0 t.session t.lots h.sound.holders h.sound.lots_ordered (λ j r. omega (arith, h.sound.lots_are j r, (h.small.carried_in j r).0)));
-        notices_in = subst (λ i. All (NoticeBounded i t.session) t.notices) (sym many)
+        notices_in = subst (λ i. AllByRecursion (NoticeBounded i t.session) t.notices) (sym many)
             (notices_fit n 0 t.session t.notices h.sound.sellers h.sound.ordered (λ j r. omega (arith, h.sound.under_short j, (h.small.net_in j r).1)));
         marking_in = λ price e. marking_fits c sized t h.clock h.small price (between_is 1 999999 price e).1;
         expiry_in = λ final e. expiry_fits c sized t h.clock h.small final (between_is 1 999999 final e).1;

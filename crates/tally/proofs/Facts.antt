@@ -1,7 +1,7 @@
 -- What the questions tell, and what an account shows.
 use Rattle.std.proofs.Common.{◌≡◌, ℕ, zero, suc, ◌+◌, ◌-◌, ◌<◌, ◌≤◌, min, true, false, cond, eqb, leb, List, [], ◌∷◌, ◌++◌, length, get_or, ℤ, pos, negsuc, Some, None, refl, ap, ◌∙◌, arith}
 use borrow.Author.Differences.{up, down}
-use Rattle.std.specs.List.{AllByRecursion as All}
+use Rattle.std.specs.List.{AllByRecursion}
 use Rattle.std.proofs.lemmas.List.{map_push, length-append, length-replicate}
 use Rattle.std.proofs.lemmas.Bool.{and_parts, leb-true, ne_eqb}
 use Rattle.tally.specs.declared.rows.Trade.{Trade}
@@ -80,7 +80,7 @@ one_is_0 (pos n) = omega arith
 one_is_0 (negsuc n) = omega arith
 
 -- who is not registered has nothing
-pub prices_stranger : (n k : ℕ) (ps : List Posting) → n < k → All (λ p. Registered n p.holder) ps → prices k ps ≡ []
+pub prices_stranger : (n k : ℕ) (ps : List Posting) → n < k → AllByRecursion (λ p. Registered n p.holder) ps → prices k ps ≡ []
 unfolding prices
 prices_stranger n k [] lt h = refl
 prices_stranger n k (p ∷ ps) lt h = rw (ne_eqb p.holder k (λ e. omega (arith, h.0.1))) (prices_stranger n k ps lt h.1)

@@ -1,6 +1,6 @@
 -- What a kind says to calls.
 use Rattle.std.proofs.Common.{◌≡◌, ℕ, true, List, [], ◌∷◌, IfSome, Some, None, Option}
-use Rattle.std.specs.List.{AllByRecursion as All}
+use Rattle.std.specs.List.{AllByRecursion}
 use Rattle.money.specs.Ranges.{is_price}
 use Rattle.kinds.specs.Meaning.{Meaning}
 use Rattle.tally.specs.declared.call.Call.{Call}
@@ -22,6 +22,6 @@ module _ {K : Type 0} (m : Meaning K) where
   one_priced k (call.Mark x) room = tt
   one_priced k call.Expire room = final_priced (m.final k) room (m.priced k)
 
-  pub all_priced : (k : K) (rs : List Request) → All FinalPriced (events m k rs)
+  pub all_priced : (k : K) (rs : List Request) → AllByRecursion FinalPriced (events m k rs)
   all_priced k [] = tt
   all_priced k (r ∷ rs) = (one_priced k r.call r.room, all_priced (kind_after m k r.call) rs)

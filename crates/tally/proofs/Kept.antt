@@ -1,7 +1,7 @@
 -- Each call keeps a tally balanced, so what a page owes sums to zero.
 use Rattle.std.proofs.Common.{◌≡◌, ℕ, ◌+◌, ◌*◌, ◌≤◌, List, [], ◌∷◌, map, length, ℤ, pos, ◌+ℤ◌, sum_by, sym, refl, ap, ◌∙◌, arith}
 use borrow.Author.Differences.{ints}
-use Rattle.std.specs.List.{AllByRecursion as All}
+use Rattle.std.specs.List.{AllByRecursion}
 use Rattle.std.proofs.ByRecursion.{All-append}
 use Rattle.std.proofs.lemmas.List.Sums.{sum_by-cons, sum_by-append, sum_by_push}
 use Rattle.tally.specs.declared.rows.Account.{Account}
@@ -22,8 +22,8 @@ use Rattle.tally.proofs.Zero.{over, all_contracts, totals_zero}
 use Rattle.tally.proofs.Square.{mark_square, expire_square}
 
 -- ---- marking
-pub waited : (n : ℕ) (ts : List Trade) → All (λ w. Registered n w.buyer × Registered n w.seller) ts →
-    All (λ p. Registered n p.holder) (buys ts) × All (λ p. Registered n p.holder) (sells ts)
+pub waited : (n : ℕ) (ts : List Trade) → AllByRecursion (λ w. Registered n w.buyer × Registered n w.seller) ts →
+    AllByRecursion (λ p. Registered n p.holder) (buys ts) × AllByRecursion (λ p. Registered n p.holder) (sells ts)
 waited n [] h = (tt, tt)
 waited n (t ∷ ts) h = ((h.0.0, (waited n ts h.1).0), (h.0.1, (waited n ts h.1).1))
 
@@ -62,7 +62,7 @@ balanced_designation t notice lot a b h =
 
 -- ---- expiry
 module _ {X : Type 0} (price : ℕ) (of : ℕ → ℕ) where
-  each_in : (n m : ℕ) (xs : List X) → 1 ≤ n → n + length xs ≤ m + 1 → All (λ p. Registered m p.holder) (numbered (each price of) n xs)
+  each_in : (n m : ℕ) (xs : List X) → 1 ≤ n → n + length xs ≤ m + 1 → AllByRecursion (λ p. Registered m p.holder) (numbered (each price of) n xs)
   unfolding numbered
   each_in n m [] a b = tt
   each_in n m (x ∷ xs) a b = ((a, omega arith), each_in (n + 1) m xs (omega arith) (omega arith))

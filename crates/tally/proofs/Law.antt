@@ -1,6 +1,6 @@
 -- The settlement law.
 use Rattle.std.proofs.Common.{◌≡◌, ℕ, ◌+◌, ◌-◌, ◌*◌, ◌<◌, ◌≤◌, true, false, cond, not, ◌&&◌, eqb, ltb, leb, List, [], ◌∷◌, ◌++◌, length, get_or, pos, ◌+ℤ◌, ◌-ℤ◌, ◌*ℤ◌, Some, None, fold, sum, Option, sym, refl, ap, ◌∙◌, subst, arith}
-use Rattle.std.specs.List.{AllByRecursion as All}
+use Rattle.std.specs.List.{AllByRecursion}
 use Rattle.std.proofs.lemmas.List.{append_assoc, append-nil}
 use Rattle.std.proofs.lemmas.Bool.{and_parts, eqb-true, not-true, false≢true}
 use Rattle.tally.specs.declared.rows.Lot.{Lot}
@@ -139,7 +139,7 @@ module _ (c : Terms) (b : Buildable c) (t : Tally) (h : Sound c t) (k : Clocked 
       let some = between_is 1 260 c.last (and_parts (between 1 260 c.last) (cond c.delivers (leb 1 c.opens && (leb c.opens c.closes && ltb c.closes c.last)) (eqb c.opens 0 && eqb c.closes 0)) b.built).0 in
       subst (λ x. Balances c t.rate x) (same_page e) (expiry_balances c t final h.balanced (k.some_rate (omega (arith, some.0))))
 
-  undue_met : (m : Marking) (room : ℕ) → verdict c v (marking m room) ≡ None → All (λ n. n.session ≡ t.session) t.notices
+  undue_met : (m : Marking) (room : ℕ) → verdict c v (marking m room) ≡ None → AllByRecursion (λ n. n.session ≡ t.session) t.notices
   unfolding questions
   undue_met m room q = ordered_undue 0 t.session t.notices (not-true (is_due t.session t.notices) (met _ _ (met _ _ q).1).0) h.ordered
 
@@ -148,7 +148,7 @@ module _ (c : Terms) (b : Buildable c) (t : Tally) (h : Sound c t) (k : Clocked 
   none_due refused =
       elim (is_due t.session t.notices) as (λ x. is_due t.session t.notices ≡ x → x ≡ false) [ true ↦ λ e. absurd (refused (rw e refl)) | false ↦ λ _. refl ] refl
 
-  lot_found : (n : Notice) (ns : List Notice) → t.notices ≡ n ∷ ns → n.session < t.session → (ls : List Lot) → t.lots ≡ ls → (l : Lot) × (rest : List Lot) × (t.lots ≡ l ∷ rest) × All (λ x. l.session ≤ x.session) rest
+  lot_found : (n : Notice) (ns : List Notice) → t.notices ≡ n ∷ ns → n.session < t.session → (ls : List Lot) → t.lots ≡ ls → (l : Lot) × (rest : List Lot) × (t.lots ≡ l ∷ rest) × AllByRecursion (λ x. l.session ≤ x.session) rest
   lot_found n ns nx due [] el = absurd (finds_lot c t h n ns nx due el)
   lot_found n ns nx due (l ∷ ls) el = (l, ls, el, oldest_first l.session l.owner t.session ls (rw el at h.lots_ordered).3)
 

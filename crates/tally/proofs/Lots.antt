@@ -1,6 +1,6 @@
 -- Lots: what each account holds after a marking or a designation, their order, and how many rows they take.
 use Rattle.std.proofs.Common.{◌≡◌, ℕ, ◌+◌, ◌-◌, ◌<◌, ◌≤◌, Bool, true, false, cond, eqb, ltb, leb, List, [], ◌∷◌, ◌++◌, length, ℤ, sym, refl, ap, ◌∙◌, ⊎_elim, arith}
-use Rattle.std.specs.List.{AllByRecursion as All}
+use Rattle.std.specs.List.{AllByRecursion}
 use Rattle.std.proofs.ByRecursion.{All-append}
 use Rattle.std.proofs.lemmas.List.{length-append}
 use Rattle.std.proofs.lemmas.Bool.{eq-eqb, ne_eqb, cases_eq, leb-false, ltb-true}
@@ -37,7 +37,7 @@ less_other : (j k n : ℕ) (ls : List Lot) → (j ≡ k → ⊥) → in_lots k (
 unfolding in_lots less_lots
 less_other j k n ls d = held_other lot_counting whose same_owner j k n d ls
 
-pub lots_stranger : (n k : ℕ) (ls : List Lot) → n < k → All (λ l. Registered n l.owner) ls → in_lots k ls ≡ 0
+pub lots_stranger : (n k : ℕ) (ls : List Lot) → n < k → AllByRecursion (λ l. Registered n l.owner) ls → in_lots k ls ≡ 0
 unfolding in_lots
 lots_stranger n k [] lt h = refl
 lots_stranger n k (l ∷ ls) lt h =
@@ -92,19 +92,19 @@ module _ {X : Type 0} (s : ℕ) (c : ℕ → Change) where
 
 -- ---- what stays true of every lot
 module _ (P : Lot → Type 0) (stays : (l : Lot) (m : ℕ) → 1 ≤ m → m ≤ l.count → P l → P (lot_counting.recount l m)) where
-  pub all_less_oldest : (n : ℕ) (ls : List Lot) → All P ls → All P (less_oldest_lots n ls)
+  pub all_less_oldest : (n : ℕ) (ls : List Lot) → AllByRecursion P ls → AllByRecursion P (less_oldest_lots n ls)
   unfolding less_oldest_lots
   all_less_oldest n ls h = all_left lot_counting every P stays n ls h
 
-  all_aged : (s k : ℕ) (b a : ℤ) (ls : List Lot) → (long b < long a → P (new_lot s k b a)) → All P ls → All P (aged s k b a ls)
+  all_aged : (s k : ℕ) (b a : ℤ) (ls : List Lot) → (long b < long a → P (new_lot s k b a)) → AllByRecursion P ls → AllByRecursion P (aged s k b a ls)
   unfolding aged less_lots
   all_aged s k b a ls new h =
-      elim (ltb (long b) (long a)) as (λ t. ltb (long b) (long a) ≡ t → All P (cond t (ls ++ new_lot s k b a ∷ []) (take_picked lot_counting (owned_by whose k) (long b - long a) ls))) [
+      elim (ltb (long b) (long a)) as (λ t. ltb (long b) (long a) ≡ t → AllByRecursion P (cond t (ls ++ new_lot s k b a ∷ []) (take_picked lot_counting (owned_by whose k) (long b - long a) ls))) [
         | true ↦ λ e. All-append P ls (new_lot s k b a ∷ []) h (new (ltb-true (long b) (long a) e), tt)
         | false ↦ λ e. all_left lot_counting (owned_by whose k) P stays (long b - long a) ls h
       ] refl
 
-  pub all_turned : (s n : ℕ) (cs : List Change) (ls : List Lot) → ((k : ℕ) (b a : ℤ) → n ≤ k → k < n + length cs → long b < long a → P (new_lot s k b a)) → All P ls → All P (turned s n cs ls)
+  pub all_turned : (s n : ℕ) (cs : List Change) (ls : List Lot) → ((k : ℕ) (b a : ℤ) → n ≤ k → k < n + length cs → long b < long a → P (new_lot s k b a)) → AllByRecursion P ls → AllByRecursion P (turned s n cs ls)
   unfolding turned
   all_turned s n [] ls new h = h
   all_turned s n (x ∷ cs) ls new h =
@@ -145,36 +145,36 @@ order_less_oldest n m ls o = order_left every 0 0 n m ls o
 abbrev Below : ℕ → ℕ → Lot → Type 0
 Below s k l = l.session ≡ s → l.owner < k
 
-order_push : (s k n : ℕ) (ls : List Lot) (l : Lot) → Behind s k l → l.session < n → 1 ≤ l.count → All (λ x. x.session ≤ l.session) ls → All (Below l.session l.owner) ls → LotsInOrder s k n ls → LotsInOrder s k n (ls ++ l ∷ [])
+order_push : (s k n : ℕ) (ls : List Lot) (l : Lot) → Behind s k l → l.session < n → 1 ≤ l.count → AllByRecursion (λ x. x.session ≤ l.session) ls → AllByRecursion (Below l.session l.owner) ls → LotsInOrder s k n ls → LotsInOrder s k n (ls ++ l ∷ [])
 order_push s k n [] l b lt some le below o = (b, lt, some, tt)
 order_push s k n (x ∷ ls) l b lt some le below o =
     (o.0, o.1, o.2, order_push x.session x.owner n ls l (le.0, λ e. below.0 e) lt some le.1 below.1 o.3)
 
-sessions_below : (s k n : ℕ) (ls : List Lot) → LotsInOrder s k n ls → All (λ x. x.session < n) ls
+sessions_below : (s k n : ℕ) (ls : List Lot) → LotsInOrder s k n ls → AllByRecursion (λ x. x.session < n) ls
 sessions_below s k n [] o = tt
 sessions_below s k n (l ∷ ls) o = (o.1, sessions_below l.session l.owner n ls o.3)
 
-pub oldest_first : (s k n : ℕ) (ls : List Lot) → LotsInOrder s k n ls → All (λ x. s ≤ x.session) ls
+pub oldest_first : (s k n : ℕ) (ls : List Lot) → LotsInOrder s k n ls → AllByRecursion (λ x. s ≤ x.session) ls
 oldest_first s k n ls o = from s k s ls (omega arith) o
   where
-    from : (s k low : ℕ) (ls : List Lot) → low ≤ s → LotsInOrder s k n ls → All (λ x. low ≤ x.session) ls
+    from : (s k low : ℕ) (ls : List Lot) → low ≤ s → LotsInOrder s k n ls → AllByRecursion (λ x. low ≤ x.session) ls
     from s k low [] le o = tt
     from s k low (l ∷ ls) le o = (omega (arith, o.0.0), from l.session l.owner low ls (omega (arith, o.0.0)) o.3)
 
 -- ---- order and length after a marking
-pub below_any : (s k n : ℕ) (ls : List Lot) → LotsInOrder s k n ls → All (Below n 1) ls
+pub below_any : (s k n : ℕ) (ls : List Lot) → LotsInOrder s k n ls → AllByRecursion (Below n 1) ls
 below_any s k n [] o = tt
 below_any s k n (l ∷ ls) o = (λ e. absurd (omega (arith, o.1)), below_any l.session l.owner n ls o.3)
 
-below_more : (s k : ℕ) (ls : List Lot) → All (Below s k) ls → All (Below s (k + 1)) ls
+below_more : (s k : ℕ) (ls : List Lot) → AllByRecursion (Below s k) ls → AllByRecursion (Below s (k + 1)) ls
 below_more s k [] h = tt
 below_more s k (l ∷ ls) h = (λ e. omega (arith, h.0 e), below_more s k ls h.1)
 
-at_most : (s k n : ℕ) (ls : List Lot) → LotsInOrder s k (n + 1) ls → All (λ x. x.session ≤ n) ls
+at_most : (s k n : ℕ) (ls : List Lot) → LotsInOrder s k (n + 1) ls → AllByRecursion (λ x. x.session ≤ n) ls
 at_most s k n [] o = tt
 at_most s k n (l ∷ ls) o = (omega (arith, o.1), at_most l.session l.owner n ls o.3)
 
-order_aged : (s k : ℕ) (b a : ℤ) (ls : List Lot) → 1 ≤ k → All (Below s k) ls → LotsInOrder 0 0 (s + 1) ls → LotsInOrder 0 0 (s + 1) (aged s k b a ls)
+order_aged : (s k : ℕ) (b a : ℤ) (ls : List Lot) → 1 ≤ k → AllByRecursion (Below s k) ls → LotsInOrder 0 0 (s + 1) ls → LotsInOrder 0 0 (s + 1) (aged s k b a ls)
 unfolding aged less_lots
 order_aged s k b a ls some below o =
     elim (ltb (long b) (long a)) as (λ t. ltb (long b) (long a) ≡ t → LotsInOrder 0 0 (s + 1) (cond t (ls ++ new_lot s k b a ∷ []) (take_picked lot_counting (owned_by whose k) (long b - long a) ls))) [
@@ -182,7 +182,7 @@ order_aged s k b a ls some below o =
       | false ↦ λ e. order_left (owned_by whose k) 0 0 (s + 1) (long b - long a) ls o
     ] refl
 
-pub order_turned : (s n : ℕ) (cs : List Change) (ls : List Lot) → 1 ≤ n → All (Below s n) ls → LotsInOrder 0 0 (s + 1) ls → LotsInOrder 0 0 (s + 1) (turned s n cs ls)
+pub order_turned : (s n : ℕ) (cs : List Change) (ls : List Lot) → 1 ≤ n → AllByRecursion (Below s n) ls → LotsInOrder 0 0 (s + 1) ls → LotsInOrder 0 0 (s + 1) (turned s n cs ls)
 unfolding turned
 order_turned s n [] ls some below o = o
 order_turned s n (x ∷ cs) ls some below o =

@@ -1,6 +1,6 @@
 -- Notices: what each seller has under notice, their order, and their contracts one by one.
 use Rattle.std.proofs.Common.{◌≡◌, ℕ, ◌+◌, ◌-◌, ◌<◌, ◌≤◌, true, false, cond, eqb, ltb, leb, List, [], ◌∷◌, ◌++◌, length, replicate, sym, refl, ap, ◌∙◌, arith}
-use Rattle.std.specs.List.{AllByRecursion as All}
+use Rattle.std.specs.List.{AllByRecursion}
 use Rattle.std.proofs.lemmas.List.{append_assoc, replicate-append-replicate}
 use Rattle.std.proofs.lemmas.Bool.{ne_eqb, leb-true, leb-false, ltb-false, lt-ltb}
 use Rattle.std.proofs.lemmas.Bool.Decides.{nat_tests}
@@ -41,7 +41,7 @@ unfolding less_oldest_notices
 less_is m n ns some le = oldest_is notice_counting m n ns some le
 
 module _ (P : Notice → Type 0) (stays : (n : Notice) (m : ℕ) → 1 ≤ m → m ≤ n.count → P n → P (notice_counting.recount n m)) where
-  pub all_less_notices : (m : ℕ) (ns : List Notice) → All P ns → All P (less_oldest_notices m ns)
+  pub all_less_notices : (m : ℕ) (ns : List Notice) → AllByRecursion P ns → AllByRecursion P (less_oldest_notices m ns)
   unfolding less_oldest_notices
   all_less_notices m ns h = all_left notice_counting every P stays m ns h
 
@@ -74,11 +74,11 @@ ordered_less lo hi m n ns le o =
       | false ↦ λ e. (o.0, o.1, omega (arith, leb-false n.count m e), o.3)
     ] refl)
 
-ordered_same : (lo hi : ℕ) (ns : List Notice) → hi ≤ lo → Ordered lo hi ns → All (λ n. n.session ≡ hi) ns
+ordered_same : (lo hi : ℕ) (ns : List Notice) → hi ≤ lo → Ordered lo hi ns → AllByRecursion (λ n. n.session ≡ hi) ns
 ordered_same lo hi [] le o = tt
 ordered_same lo hi (n ∷ ns) le o = (omega arith, ordered_same n.session hi ns (omega arith) o.3)
 
-pub ordered_undue : (lo hi : ℕ) (ns : List Notice) → is_due hi ns ≡ false → Ordered lo hi ns → All (λ n. n.session ≡ hi) ns
+pub ordered_undue : (lo hi : ℕ) (ns : List Notice) → is_due hi ns ≡ false → Ordered lo hi ns → AllByRecursion (λ n. n.session ≡ hi) ns
 ordered_undue lo hi [] e o = tt
 ordered_undue lo hi (n ∷ ns) e o = let le = ltb-false n.session hi e in (omega arith, ordered_same n.session hi ns le o.3)
 
@@ -102,7 +102,7 @@ pub due_first : (k s m : ℕ) (n : Notice) (ns : List Notice) → 1 ≤ n.count 
 unfolding due
 due_first k s m n ns some le lt = rw (less_is m n ns some le) (grind (arith, nat_tests))
 
-pub under_stranger : (n k : ℕ) (ns : List Notice) → n < k → All (λ x. Registered n x.seller) ns → under_notice k ns ≡ 0
+pub under_stranger : (n k : ℕ) (ns : List Notice) → n < k → AllByRecursion (λ x. Registered n x.seller) ns → under_notice k ns ≡ 0
 under_stranger n k [] lt h = none_under_notice k
 under_stranger n k (x ∷ ns) lt h = omega (arith, notices_cons k x ns, ap (λ b. cond b x.count 0) (ne_eqb x.seller k (λ e. omega (arith, h.0.1))), under_stranger n k ns lt h.1)
 

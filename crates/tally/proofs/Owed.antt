@@ -1,7 +1,7 @@
 -- What a page owes an account fits a line of money.
 use Rattle.std.proofs.Common.{◌≡◌, ℕ, suc, ◌+◌, ◌*◌, ◌<◌, ◌≤◌, true, List, [], ◌∷◌, length, take, drop, ℤ, pos, negsuc, ◌+ℤ◌, ◌-ℤ◌, ◌*ℤ◌, neg_ℤ, nat_abs, sum, sym, refl, subst, arith}
 use borrow.Author.Differences.{up, down, sum_is_lem, neg_is, product_is, abs_is}
-use Rattle.std.specs.List.{AllByRecursion as All}
+use Rattle.std.specs.List.{AllByRecursion}
 use Rattle.std.proofs.ByRecursion.{All-drop}
 use Rattle.std.proofs.lemmas.List.{length-drop}
 use Rattle.std.proofs.lemmas.List.Sums.{sum_by-take-le}
@@ -44,10 +44,10 @@ span_in (pos n) p q a b s =
 span_in (negsuc n) p q a b s =
     omega (arith, span_is (negsuc n) p q, one_is_0 (negsuc n *ℤ (pos p -ℤ pos q)), product p (suc n) 999999 3000 a s.1, product q (suc n) 999999 3000 b s.1)
 
-above_in : (p : ℕ) (xs : List ℕ) → p ≤ 999999 → All (λ x. x ≤ 999999) xs → Small (999999 * length xs) (above p xs)
+above_in : (p : ℕ) (xs : List ℕ) → p ≤ 999999 → AllByRecursion (λ x. x ≤ 999999) xs → Small (999999 * length xs) (above p xs)
 above_in p xs le h = omega (arith, above_is p xs, one_is_0 (above p xs), sum_in xs h, product p (length xs) 999999 (length xs) le (omega arith))
 
-module _ (size : ℕ) (sized : size ≤ 100) (b s : List ℕ) (few_b : length b ≤ 3000) (few_s : length s ≤ 3000) (low_b : All (λ x. x ≤ 999999) b) (low_s : All (λ x. x ≤ 999999) s) where
+module _ (size : ℕ) (sized : size ≤ 100) (b s : List ℕ) (few_b : length b ≤ 3000) (few_s : length s ≤ 3000) (low_b : AllByRecursion (λ x. x ≤ 999999) b) (low_s : AllByRecursion (λ x. x ≤ 999999) s) where
   day_trade_in : is_amount (day_trade size b s) ≡ true
   unfolding day_trade
   day_trade_in =
@@ -88,7 +88,7 @@ module _ (size : ℕ) (sized : size ≤ 100) (b s : List ℕ) (few_b : length b 
       (sized_in size 5999994000 gain sized (small_in (2999997000 + m + n) 5999994000 gain (omega (arith, left_over)) all))
 
 -- ---- all accounts
-all_numbered : {X Y : Type 0} (P : Y → Type 0) (f : ℕ → X → Y) (n : ℕ) (xs : List X) → ((k : ℕ) (x : X) → n ≤ k → k < n + length xs → P (f k x)) → All P (numbered f n xs)
+all_numbered : {X Y : Type 0} (P : Y → Type 0) (f : ℕ → X → Y) (n : ℕ) (xs : List X) → ((k : ℕ) (x : X) → n ≤ k → k < n + length xs → P (f k x)) → AllByRecursion P (numbered f n xs)
 unfolding numbered
 all_numbered P f n [] h = tt
 all_numbered P f n (x ∷ xs) h = (h n x (omega arith) (omega arith), all_numbered P f (n + 1) xs (λ k y a b. h k y (omega arith) (omega arith)))
@@ -100,12 +100,12 @@ module _ (c : Terms) (sized : c.size ≤ 100) (t : Tally) (clock : Clocked c t) 
   abbrev listed : ℕ → Account → Listed
   listed k a = record { number = k; account = a }
 
-  all_listed : (P : Listed → Type 0) → ((k : ℕ) (p : Registration) → Registered (length t.parties) k → P (listed k (account c.size t k p))) → All P (roll v)
+  all_listed : (P : Listed → Type 0) → ((k : ℕ) (p : Registration) → Registered (length t.parties) k → P (listed k (account c.size t k p))) → AllByRecursion P (roll v)
   all_listed P h =
-      subst (λ xs. All P xs) (sym (numbered_twice listed (account c.size t) 1 t.parties))
+      subst (λ xs. AllByRecursion P xs) (sym (numbered_twice listed (account c.size t) 1 t.parties))
       (all_numbered P (λ k p. listed k (account c.size t k p)) 1 t.parties (λ k p low high. h k p (low, omega arith)))
 
-  pub marking_fits : (price : ℕ) → price ≤ 999999 → All (λ x. OwedBounded (by_marking c v price x)) (roll v)
+  pub marking_fits : (price : ℕ) → price ≤ 999999 → AllByRecursion (λ x. OwedBounded (by_marking c v price x)) (roll v)
   unfolding account
   marking_fits price le = all_listed (λ x. OwedBounded (by_marking c v price x)) (λ k p r.
       let low = sides_in k t.waiting d.trades_in in
@@ -115,7 +115,7 @@ module _ (c : Terms) (sized : c.size ≤ 100) (t : Tally) (clock : Clocked c t) 
         margin_in c.size sized b s (d.bought_in k r) (d.sold_in k r) low.0 low.1 (carried t k) t.price price (d.carried_in k r) clock.priced le,
       ))
 
-  pub expiry_fits : (final : ℕ) → final ≤ 999999 → All (λ x. OwedBounded (by_expiry c v final x)) (roll v)
+  pub expiry_fits : (final : ℕ) → final ≤ 999999 → AllByRecursion (λ x. OwedBounded (by_expiry c v final x)) (roll v)
   unfolding account
   expiry_fits final le = all_listed (λ x. OwedBounded (by_expiry c v final x)) (λ k p r.
       let gain = carried t k *ℤ (pos final -ℤ pos t.price) in

@@ -1,6 +1,6 @@
 -- Notices in the log: contracts noticed are contracts designated, in order and once, followed by contracts standing.
 use Rattle.std.proofs.Common.{◌≡◌, ℕ, ◌+◌, ◌-◌, ◌<◌, ◌≤◌, Bool, true, false, cond, ltb, leb, List, [], ◌∷◌, ◌++◌, replicate, Some, None, filter, sym, refl, ap, ◌∙◌, ⊎_elim, arith}
-use Rattle.std.specs.List.{AllByRecursion as All}
+use Rattle.std.specs.List.{AllByRecursion}
 use Rattle.std.proofs.lemmas.List.Elements.{filter-append}
 use Rattle.std.proofs.ByRecursion.{All-append, All-weaker}
 use Rattle.std.proofs.lemmas.List.{append_assoc, append-nil}
@@ -56,11 +56,11 @@ every_session : (ns : List Notice) → of_sessions (λ _. true) ns ≡ ns
 every_session [] = refl
 every_session (n ∷ ns) = ap (λ l. n ∷ l) (every_session ns)
 
-all_before : (s : ℕ) (ns : List Notice) → All (λ n. n.session < s) ns → before s ns ≡ ns
+all_before : (s : ℕ) (ns : List Notice) → AllByRecursion (λ n. n.session < s) ns → before s ns ≡ ns
 all_before s [] h = refl
 all_before s (n ∷ ns) h = rw (lt-ltb n.session s h.0) (ap (λ l. n ∷ l) (all_before s ns h.1))
 
-none_before : (s : ℕ) (ns : List Notice) → All (λ n. n.session ≡ s) ns → before s ns ≡ []
+none_before : (s : ℕ) (ns : List Notice) → AllByRecursion (λ n. n.session ≡ s) ns → before s ns ≡ []
 none_before s [] h = refl
 none_before s (n ∷ ns) h = rw (le-ltb n.session s (omega (arith, h.0))) (none_before s ns h.1)
 
@@ -69,7 +69,7 @@ pub record Served (xs : List Entry) (t : Tally) : Type 0 where
   pub parts : List Notice
   pub answered : designated (designations xs) ≡ sellers parts
   pub in_order : (p : ℕ → Bool) → sellers (of_sessions p (noticed xs)) ≡ sellers (of_sessions p parts) ++ sellers (of_sessions p t.notices)
-  pub past : All (λ n. n.session < t.session) parts
+  pub past : AllByRecursion (λ n. n.session < t.session) parts
   pub once : (s : ℕ) → s < t.session → (rest : List ℕ) × (designated (designations xs) ≡ sellers (before s (noticed xs)) ++ rest)
 
 -- the law that the log shows
@@ -142,7 +142,7 @@ module _ (c : Terms) (xs : List Entry) (t : Tally) (told : Told c xs t) (h : Sou
       }
 
   -- ---- a marking
-  served_marking : (x : Entry) (m : Marking) → own_notices (1 + markings xs) x ≡ [] → designation_in x.answer ≡ [] → All (λ n. n.session ≡ t.session) t.notices → Served (xs ++ x ∷ []) (fed_marking t m)
+  served_marking : (x : Entry) (m : Marking) → own_notices (1 + markings xs) x ≡ [] → designation_in x.answer ≡ [] → AllByRecursion (λ n. n.session ≡ t.session) t.notices → Served (xs ++ x ∷ []) (fed_marking t m)
   unfolding fed_marking sellers
   served_marking x m en ed undue =
       let n : noticed (xs ++ x ∷ []) ≡ noticed xs = notices_push 1 xs x ∙ ap (λ l. noticed xs ++ l) en ∙ append-nil (noticed xs) in

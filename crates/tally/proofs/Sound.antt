@@ -1,7 +1,7 @@
 -- What holds of the tally of every run.
 use Rattle.std.proofs.Common.{◌≡◌, ℕ, ◌+◌, ◌<◌, ◌≤◌, true, false, cond, ◌&&◌, eqb, ltb, leb, List, [], ◌∷◌, ◌++◌, length, pos, ◌+ℤ◌, Some, None, sym, refl, ap, ◌∙◌, subst, ⊎_elim, arith}
 use borrow.Author.Differences.{up, down, sum_is_lem}
-use Rattle.std.specs.List.{AllByRecursion as All}
+use Rattle.std.specs.List.{AllByRecursion}
 use Rattle.std.proofs.ByRecursion.{All-push, All-weaker}
 use Rattle.std.proofs.lemmas.List.{length-append}
 use Rattle.std.proofs.lemmas.Bool.{and_parts, leb-true, eq-eqb, ne_eqb, cases_eq, cases_lt, not-true, lt-ltb}
@@ -29,8 +29,8 @@ use Rattle.tally.proofs.Facts.{met, between_is, length_numbered, today, someone,
 
 pub record Sound (c : Terms) (t : Tally) : Type 0 where
   pub balanced : Balanced t
-  pub sellers : All (λ n. Registered (length t.parties) n.seller) t.notices
-  pub holders : All (λ l. Registered (length t.parties) l.owner) t.lots
+  pub sellers : AllByRecursion (λ n. Registered (length t.parties) n.seller) t.notices
+  pub holders : AllByRecursion (λ l. Registered (length t.parties) l.owner) t.lots
   pub ordered : Ordered 0 t.session t.notices
   pub lots_ordered : LotsInOrder 0 0 t.session t.lots
   pub started : 1 ≤ t.session

@@ -1,7 +1,7 @@
 -- The totals of a balanced tally sum to zero.
 use Rattle.std.proofs.Common.{◌≡◌, ℕ, ◌+◌, ◌*◌, ◌<◌, ◌≤◌, true, false, cond, eqb, List, [], ◌∷◌, ◌++◌, length, replicate, pos, sum_by, sum, sym, refl, ap, ◌∙◌, ⊎_elim, arith}
 use borrow.Author.Differences.{up, down, sum_is_lem, same_in}
-use Rattle.std.specs.List.{AllByRecursion as All}
+use Rattle.std.specs.List.{AllByRecursion}
 use Rattle.std.proofs.lemmas.List.{length-append, length-replicate}
 use Rattle.std.proofs.lemmas.List.Sums.{sum_by-cons, sum_by-append}
 use Rattle.std.proofs.lemmas.Bool.{eq-eqb, ne_eqb, cases_eq}
@@ -71,7 +71,7 @@ module _ {X : Type 0} where
       (λ (d : h ≡ n → ⊥). rw (ne_eqb h n d) (omega (arith, over_one h m (n + 1) xs (omega arith) (omega arith))))
       (cases_eq h n)
 
-  pub over_share : (f : Posting → ℕ) (ps : List Posting) (xs : List X) → All (λ p. Registered (length xs) p.holder) ps → over (λ k. share f k ps) 1 xs ≡ sum_by f ps
+  pub over_share : (f : Posting → ℕ) (ps : List Posting) (xs : List X) → AllByRecursion (λ p. Registered (length xs) p.holder) ps → over (λ k. share f k ps) 1 xs ≡ sum_by f ps
   unfolding share
   over_share f [] xs all = over_none 1 xs
   over_share f (p ∷ ps) xs all =
@@ -79,10 +79,10 @@ module _ {X : Type 0} where
       ∙ omega (arith, over_one p.holder (f p) 1 xs all.0.0 (omega arith), over_share f ps xs all.1, sum_by-cons f p ps)
 
   -- over all accounts together
-  pub all_contracts : (ps : List Posting) (xs : List X) → All (λ p. Registered (length xs) p.holder) ps → over (λ k. length (prices k ps)) 1 xs ≡ sum_by contracts ps
+  pub all_contracts : (ps : List Posting) (xs : List X) → AllByRecursion (λ p. Registered (length xs) p.holder) ps → over (λ k. length (prices k ps)) 1 xs ≡ sum_by contracts ps
   all_contracts ps xs h = over_same (λ k. length (prices k ps)) (λ k. share contracts k ps) 1 xs (λ k. prices_count k ps) ∙ over_share contracts ps xs h
 
-  pub all_values : (ps : List Posting) (xs : List X) → All (λ p. Registered (length xs) p.holder) ps → over (λ k. sum (prices k ps)) 1 xs ≡ sum_by worth_of ps
+  pub all_values : (ps : List Posting) (xs : List X) → AllByRecursion (λ p. Registered (length xs) p.holder) ps → over (λ k. sum (prices k ps)) 1 xs ≡ sum_by worth_of ps
   all_values ps xs h = over_same (λ k. sum (prices k ps)) (λ k. share worth_of k ps) 1 xs (λ k. prices_value k ps) ∙ over_share worth_of ps xs h
 
   summed : (size price : ℕ) (bs ss : List Posting) (n : ℕ) (xs : List X) →

@@ -1,6 +1,6 @@
 -- No number of a run is large: what an engine with tables of fixed size and 64-bit numbers relies on.
 use Rattle.std.specs.Prelude.{◌≡◌, ℕ, ◌+◌, ◌*◌, ◌≤◌, true, cond, List, length, ℤ, Some, None, count_by, unsigned_abs}
-use Rattle.std.specs.List.{AllByRecursion as All}
+use Rattle.std.specs.List.{AllByRecursion}
 use Rattle.money.specs.Ranges.{is_price, is_amount}
 use Rattle.tally.specs.declared.rows.Account.{Account}
 use Rattle.tally.specs.declared.rows.Trade.{Trade}
@@ -64,13 +64,13 @@ pub record Bounded (c : Terms) (v : View) : Type 0 where
   -- the lots have room for those that the next marking opens
   pub few_lots : length v.lots + count_by opens_lot v.accounts ≤ 1024
   pub accounts_in : (k : ℕ) → Registered (length v.accounts) k → AccountBounded c v k (find v k)
-  pub trades_in : All (TradeBounded (length v.accounts)) v.sheet
-  pub lots_in : All (LotBounded (length v.accounts)) v.lots
-  pub notices_in : All (NoticeBounded (length v.accounts) v.session) v.notices
+  pub trades_in : AllByRecursion (TradeBounded (length v.accounts)) v.sheet
+  pub lots_in : AllByRecursion (LotBounded (length v.accounts)) v.lots
+  pub notices_in : AllByRecursion (NoticeBounded (length v.accounts) v.session) v.notices
   -- what any page would owe fits
-  pub marking_in : (price : ℕ) → is_price price ≡ true → All (λ x. OwedBounded (by_marking c v price x)) (roll v)
-  pub expiry_in : (final : ℕ) → is_price final ≡ true → All (λ x. OwedBounded (by_expiry c v final x)) (roll v)
+  pub marking_in : (price : ℕ) → is_price price ≡ true → AllByRecursion (λ x. OwedBounded (by_marking c v price x)) (roll v)
+  pub expiry_in : (final : ℕ) → is_price final ≡ true → AllByRecursion (λ x. OwedBounded (by_expiry c v final x)) (roll v)
 
 -- and so of every run of calls
 abbrev pub BoundsLaw : Type 0
-BoundsLaw = (c : Terms) → Buildable c → (es : List Event) → All FinalPriced es → Bounded c (shown c es)
+BoundsLaw = (c : Terms) → Buildable c → (es : List Event) → AllByRecursion FinalPriced es → Bounded c (shown c es)

@@ -1,6 +1,6 @@
 -- The settlement law: what holds of every run of calls, over its log.
 use Rattle.std.specs.Prelude.{◌≡◌, ℕ, ◌+◌, ◌<◌, ◌≤◌, true, false, List, [], ◌∷◌, ◌++◌, map, length, ℤ, pos, ◌+ℤ◌, ◌-ℤ◌, ◌*ℤ◌, Some, None, ◌≢◌}
-use Rattle.std.specs.List.{AllByRecursion as All}
+use Rattle.std.specs.List.{AllByRecursion}
 use Rattle.money.specs.Bound.{Allowed}
 use Rattle.tally.specs.declared.rows.Lot.{Lot}
 use Rattle.tally.specs.declared.rows.Notice.{Notice}
@@ -50,11 +50,11 @@ pub record Met (c : Terms) (t : Tally) (e : Event) : Type 0 where
   -- the page that it writes balances
   pub page_balances : (p : Page) → verdict c (seen c.size t) e ≡ None → page_of c (seen c.size t) e ≡ Some p → Balances c (page_rate (seen c.size t) e) p
   -- no marking is accepted while a notice of an earlier session stands
-  pub notices_come_first : (m : Marking) (room : ℕ) → e ≡ marking m room → verdict c (seen c.size t) e ≡ None → All (λ n. n.session ≡ t.session) t.notices
+  pub notices_come_first : (m : Marking) (room : ℕ) → e ≡ marking m room → verdict c (seen c.size t) e ≡ None → AllByRecursion (λ n. n.session ≡ t.session) t.notices
   -- a designation is refused only where none is due
   pub refused_if_none_due : e ≡ designating → (verdict c (seen c.size t) e ≢ None) → is_due t.session t.notices ≡ false
   -- with a due notice there is always a lot, of no later session than any other
-  pub oldest_lot_found : (n : Notice) (ns : List Notice) → t.notices ≡ n ∷ ns → n.session < t.session → (l : Lot) × (ls : List Lot) × (t.lots ≡ l ∷ ls) × All (λ x. l.session ≤ x.session) ls
+  pub oldest_lot_found : (n : Notice) (ns : List Notice) → t.notices ≡ n ∷ ns → n.session < t.session → (l : Lot) × (ls : List Lot) × (t.lots ≡ l ∷ ls) × AllByRecursion (λ x. l.session ≤ x.session) ls
 
 -- the settlement law of a run
 pub record Settled (c : Terms) (es : List Event) : Type 0 where

@@ -1,7 +1,7 @@
 // The page that a marking and an expiry share: what it owes each account, and what it pays.
 ghost use Rattle.std.specs.Prelude.{◌≡◌, ◌≤◌, length, take, nat_le};
 ghost use Rattle.std.specs.Simd.Lanes.{zip2};
-ghost use Rattle.std.specs.List.{AllByRecursion as All};
+ghost use Rattle.std.specs.List.{AllByRecursion};
 ghost use Rattle.tally.specs.Pages.{sums as sums_of};
 ghost use Rattle.ledger.specs.Ledgers.{view};
 ghost use Rattle.ledger.specs.Owings.{OwedIn, lines_to, row_to};
@@ -26,7 +26,7 @@ impl Ledger {
     pub(crate) fn owed(&self, settling: Settling, price: Price) -> [Owed; 64]
         ensures long { length result ≡ 64 }
         ensures owed { take self.now.registered result ≡ owed_by self.now settling price.cents }
-        ensures within { All OwedIn (take self.now.registered result) }
+        ensures within { AllByRecursion OwedIn (take self.now.registered result) }
     {
         owed_to_all(
             self.accounts(),
@@ -41,7 +41,7 @@ impl Ledger {
     // Pays what is owed into the rows of a page.
     pub(crate) fn pay(&self, owed: &[Owed], rate: Rate, page: &mut [PageRow]) -> Sums
         requires beside { length owed.now ≡ length (view self.now).accounts }
-        requires owed { All OwedIn owed.now }
+        requires owed { AllByRecursion OwedIn owed.now }
         requires page { length (view self.now).accounts ≤ length page.old }
         ensures page { page.new ≡ over (zip2 (row_to self.now.terms.currency rate.millionths) (view self.now).accounts owed.now) page.old }
         ensures sums { result ≡ sums_of (lines_to self.now.terms.currency rate.millionths (view self.now).accounts owed.now) }

@@ -1,6 +1,6 @@
 use Rattle.std.proofs.Common.{ℕ, length, take, count_by, sym, refl, ap, ◌∙◌, subst, arith}
 use mathlib.Core.Logic.{∥∥₁_map}
-use Rattle.std.specs.List.{AllByRecursion as All}
+use Rattle.std.specs.List.{AllByRecursion}
 use Rattle.std.proofs.lemmas.List.{length-take-le}
 use Rattle.tally.specs.Book.{View}
 use Rattle.tally.specs.Events.{marking}
@@ -32,7 +32,7 @@ pay-sums-requires c =
     let cut = front l.registered c.owed-owed.result in
     record {
       beside = owed_many l Marking c.unwrap-price.result.cents (cut ∙ owed.owed) ∙ sym (registered_is l);
-      owed = subst (All OwedIn) (sym cut) owed.within;
+      owed = subst (AllByRecursion OwedIn) (sym cut) owed.within;
       page = (marking_met l c.args.marking _ c.requires).room;
     }
 
@@ -44,8 +44,8 @@ settle_accounts-requires c =
     let many = owed_many l Marking c.unwrap-price.result.cents (cut ∙ owed.owed) in
     record {
       few = omega (arith, many, l.tables.0.0, l.tables.0.1);
-      accounts = subst (λ (n : ℕ). All AccountIn (take n l.accounts)) (sym many) (accounts_in l);
-      owed = subst (All OwedIn) (sym cut) owed.within;
+      accounts = subst (λ (n : ℕ). AllByRecursion AccountIn (take n l.accounts)) (sym many) (accounts_in l);
+      owed = subst (AllByRecursion OwedIn) (sym cut) owed.within;
     }
 
 pub turn_lots-requires : goal.turn_lots-requires
@@ -55,7 +55,7 @@ turn_lots-requires c =
     let used = length-take-le l.lots_used l.lots (omega (arith, l.tables.2.0, l.tables.2.1)) in
     record {
       few = omega (arith, ap length cut, registered_is l, l.tables.0.1);
-      contracts = subst (All ContractsIn) (sym cut) (contracts_in l);
+      contracts = subst (AllByRecursion ContractsIn) (sym cut) (contracts_in l);
       room = omega (arith, ap (count_by opens_lot) cut, few_lots l, used, l.tables.2.0);
     }
 

@@ -1,6 +1,6 @@
 use Rattle.std.proofs.Common.{◌≡◌, ℕ, length, take, Some, sym, refl, ap, ◌∙◌, subst, arith}
 use mathlib.Core.Logic.{∥∥₁_map}
-use Rattle.std.specs.List.{AllByRecursion as All}
+use Rattle.std.specs.List.{AllByRecursion}
 use Rattle.money.specs.Ranges.{is_rate}
 use Rattle.tally.specs.Book.{View}
 use Rattle.tally.specs.Events.{expiring}
@@ -29,7 +29,7 @@ pay-sums-requires c =
     let cut = front l.registered c.owed-owed.result in
     record {
       beside = owed_many l Expiry c.args.price.cents (cut ∙ owed.owed) ∙ sym (registered_is l);
-      owed = subst (All OwedIn) (sym cut) owed.within;
+      owed = subst (AllByRecursion OwedIn) (sym cut) owed.within;
       page = (expiry_met l c.args.price.cents _ c.requires).room;
     }
 
@@ -41,8 +41,8 @@ settle_accounts-requires c =
     let many = owed_many l Expiry c.args.price.cents (cut ∙ owed.owed) in
     record {
       few = omega (arith, many, l.tables.0.0, l.tables.0.1);
-      accounts = subst (λ (n : ℕ). All AccountIn (take n l.accounts)) (sym many) (accounts_in l);
-      owed = subst (All OwedIn) (sym cut) owed.within;
+      accounts = subst (λ (n : ℕ). AllByRecursion AccountIn (take n l.accounts)) (sym many) (accounts_in l);
+      owed = subst (AllByRecursion OwedIn) (sym cut) owed.within;
     }
 
 pub invariant_of-self : goal.invariant_of-self

@@ -1,5 +1,5 @@
 use Rattle.std.proofs.Common.{ℕ, ◌+◌, ◌<◌, List, length, get_or, sym, ap, ◌∙◌, subst, arith}
-use Rattle.std.specs.List.{AllByRecursion as All}
+use Rattle.std.specs.List.{AllByRecursion}
 use Rattle.std.proofs.lemmas.List.{length-take}
 use Rattle.tally.specs.declared.rows.Account.{Account}
 use Rattle.tally.specs.declared.rows.Trade.{Trade}
@@ -20,8 +20,8 @@ owed_to_all-requires c =
     record {
       few = omega (arith, ap length xs, registered_is l, l.tables.0.1);
       short = omega (arith, ap length ts, length-take l.written l.sheet, l.tables.1.1);
-      traded = subst (All Traded) (sym ts) (sheet_traded l);
-      contracts = subst (All ContractsIn) (sym xs) (contracts_in l);
+      traded = subst (AllByRecursion Traded) (sym ts) (sheet_traded l);
+      contracts = subst (AllByRecursion ContractsIn) (sym xs) (contracts_in l);
       dealt = subst (λ (ys : List Account). (i : ℕ) → i < length ys → Dealt c.sheet.result.now (i + 1) (get_or ys i nobody)) (sym xs)
           (subst (λ (ws : List Trade). (i : ℕ) → i < length (view l).accounts → Dealt ws (i + 1) (get_or (view l).accounts i nobody)) (sym ts) (dealt l));
       size = size_in l;
@@ -35,5 +35,5 @@ returns c =
     record {
       long = c.owed_to_all.ensures.long;
       owed = is;
-      within = subst (All OwedIn) (sym is) (owed_fits l c.args.settling c.args.price.cents (price_is _ c.args.price.within));
+      within = subst (AllByRecursion OwedIn) (sym is) (owed_fits l c.args.settling c.args.price.cents (price_is _ c.args.price.within));
     }
