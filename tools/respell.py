@@ -5,7 +5,8 @@
 
 A name of specs/ or proofs/ that is written with dashes gets underscores, `payment_of` for `payment-of`; one that begins
 with a capital is a type and loses its dashes, `PaymentLaw` for `Payment-law`. Names that Rattle makes keep their dashes:
-goals, and the steps of a function that a proof cites. Comments, strings and code keep theirs.
+goals, and the steps of a function that a proof cites. Comments keep theirs. Code has no names with
+dashes; a string that has one of these words is changed too, and is put back by hand.
 """
 
 import os

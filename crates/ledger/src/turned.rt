@@ -1,5 +1,5 @@
 // The lots as a marking turns them: what an account is left long of.
-ghost use Rattle.std.specs.Prelude.{◌≡◌, cond, ◌+◌, ◌<◌, ◌≤◌, ltb, map, length, take, if◌then◌else◌, count_by, nat_lt, unsigned_abs};
+ghost use Rattle.std.specs.Prelude.{◌≡◌, ◌+◌, ◌<◌, ◌≤◌, map, length, take, if◌then◌else◌, count_by, nat_lt, unsigned_abs};
 ghost use Rattle.std.specs.List.{AllByRecursion};
 ghost use Rattle.tally.specs.Account.{long};
 ghost use Rattle.tally.specs.Questions.{opens_lot};
@@ -28,9 +28,9 @@ fn turn_account(
     after: i64,
 )
     requires contracts { (unsigned_abs before ≤ 9000) × (unsigned_abs after ≤ 9000) }
-    requires room { used.old + (if ltb (long before) (long after) then 1 else 0) ≤ length lots.old }
+    requires room { used.old + (if nat_lt (long before) (long after) then 1 else 0) ≤ length lots.old }
     ensures lots { take used.new lots.new ≡ aged_by session owner before after (take used.old lots.old) }
-    ensures used { used.new ≤ used.old + cond (nat_lt (long before) (long after)) 1 0 }
+    ensures used { used.new ≤ used.old + (if nat_lt (long before) (long after) then 1 else 0) }
 {
     let held = holding(before);
     let left = holding(after);

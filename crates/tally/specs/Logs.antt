@@ -1,5 +1,5 @@
 -- What a log tells, in the words of the trade and without the steps of a book.
-use Rattle.std.specs.Prelude.{ℕ, ◌+◌, ◌*◌, Bool, true, false, cond, ltb, List, [], ◌∷◌, ◌++◌, map, replicate, ℤ, pos, ◌-ℤ◌, Some, None, filter, Option, ◌==◌, nat_lt}
+use Rattle.std.specs.Prelude.{ℕ, ◌+◌, ◌*◌, Bool, true, false, cond, List, [], ◌∷◌, ◌++◌, map, replicate, ℤ, pos, ◌-ℤ◌, Some, None, filter, Option, ◌==◌, nat_lt}
 use Rattle.tally.specs.declared.rows.Trade.{Trade}
 use Rattle.tally.specs.declared.rows.Notice.{Notice}
 use Rattle.tally.specs.declared.rows.Designation.{Designation}
@@ -181,4 +181,4 @@ designated (d ∷ ds) = replicate d.contracts d.seller ++ designated ds
 
 -- the notices of sessions before s
 abbrev pub before : ℕ → List Notice → List Notice
-before s ns = filter (λ n. ltb n.session s) ns
+before s ns = filter (λ n. nat_lt n.session s) ns

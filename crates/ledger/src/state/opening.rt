@@ -36,7 +36,7 @@ fn no_account() -> Account {
 
 // Whether the notice window suits the contract: inside the sessions before the last where it delivers, and none where it does not.
 fn has_window(terms: &BookTerms) -> bool
-    ensures { result ≡ (if terms.now.delivers then nat_le 1 terms.now.opens && (nat_le terms.now.opens terms.now.closes && nat_lt terms.now.closes terms.now.last) else (terms.now.opens == 0) && terms.now.closes == 0) }
+    ensures { result ≡ (if terms.now.delivers then nat_le 1 terms.now.opens && (nat_le terms.now.opens terms.now.closes && nat_lt terms.now.closes terms.now.last) else (terms.now.opens == 0 && terms.now.closes == 0)) }
 {
     if terms.delivers {
         terms.opens >= 1 && terms.opens <= terms.closes && terms.closes < terms.last

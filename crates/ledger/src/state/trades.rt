@@ -1,5 +1,5 @@
 // A trade: its questions, its row of the sheet, and the rows of its two accounts.
-ghost use Rattle.std.specs.Prelude.{◌≡◌, ℕ, ◌+◌, ◌-◌, ◌%◌, ◌<◌, ◌≤◌, true, false, not, ◌&&◌, length, get_or, is_ok, None, count_by, ◌==◌, nat_le, nat_lt, slice_index_or};
+ghost use Rattle.std.specs.Prelude.{◌≡◌, ℕ, ◌+◌, ◌-◌, ◌%◌, ◌<◌, ◌≤◌, true, false, not, ◌&&◌, length, is_ok, None, count_by, ◌==◌, nat_le, nat_lt, slice_index_or};
 ghost use Rattle.money.specs.Ranges.{is_price};
 ghost use Rattle.tally.specs.Account.{short};
 ghost use Rattle.tally.specs.Book.{numbered};
@@ -82,8 +82,8 @@ fn lots_opened(accounts: &[Account], trade: Trade) -> usize
 fn hand_over(accounts: &mut [Account], trade: Trade)
     requires buyer { Registered (length accounts.old) trade.buyer }
     requires seller { Registered (length accounts.old) trade.seller }
-    requires bought { (get_or accounts.old (trade.buyer - 1) nobody).bought + trade.contracts ≤ 3000 }
-    requires sold { (get_or accounts.old (trade.seller - 1) nobody).sold + trade.contracts ≤ 3000 }
+    requires bought { (slice_index_or accounts.old (trade.buyer - 1) nobody).bought + trade.contracts ≤ 3000 }
+    requires sold { (slice_index_or accounts.old (trade.seller - 1) nobody).sold + trade.contracts ≤ 3000 }
     ensures { accounts.new ≡ numbered (traded_account trade) 1 accounts.old }
 {
     let contracts = trade.contracts as u32;
