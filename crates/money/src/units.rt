@@ -16,10 +16,6 @@ pub type Price = Ranged<1, 999_999>;
 pub type Rate = Ranged<100_000, 9_999_999>;
 
 impl<const LOW: u32, const HIGH: u32> Ranged<LOW, HIGH> {
-    pub const LEAST: u64 = LOW as u64;
-
-    pub const GREATEST: u64 = HIGH as u64;
-
     // The number, where it is within the range.
     pub fn new(number: u64) -> Option<Self>
         ensures test { is_some result ≡ is_within LOW HIGH number }
@@ -35,6 +31,10 @@ impl<const LOW: u32, const HIGH: u32> Ranged<LOW, HIGH> {
 }
 
 impl Price {
+    pub const LEAST: u64 = 1;
+
+    pub const GREATEST: u64 = 999_999;
+
     pub fn cents(self) -> u32
         ensures value { result ≡ self.number }
         ensures within { (1 ≤ result) × (result ≤ 999999) }
@@ -44,6 +44,10 @@ impl Price {
 }
 
 impl Rate {
+    pub const LEAST: u64 = 100_000;
+
+    pub const GREATEST: u64 = 9_999_999;
+
     pub fn millionths(self) -> u32
         ensures value { result ≡ self.number }
         ensures within { (100000 ≤ result) × (result ≤ 9999999) }

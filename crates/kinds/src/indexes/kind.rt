@@ -9,7 +9,6 @@ use crate::indexes::LastFive;
 use crate::means::mean_price;
 use crate::quotation::{KindFault, Quotation};
 use crate::terms::Terms;
-use money::currency::Currency;
 use money::units::Price;
 
 impl Quotation {
@@ -47,16 +46,8 @@ impl LastFive {
 impl Contract for LastFive {
     ghost means = { five };
 
-    fn contract_size(&self) -> u32 {
-        self.terms.size()
-    }
-
-    fn currency(&self) -> Currency {
-        self.terms.currency()
-    }
-
-    fn tick(&self) -> u32 {
-        self.terms.tick()
+    fn terms(&self) -> Terms {
+        self.terms
     }
 
     fn delivers(&self) -> bool {
