@@ -11,7 +11,7 @@ use Rattle.reader.specs.Readings.{in_numbers}
 -- what a record says as it is written, each field of digits as its bytes
 abbrev pub spelt_by : Content → Entry (List ℕ)
 spelt_by (Opening ticker month year sessions opens closes) = opening ticker month year.bytes.now sessions.bytes.now opens.bytes.now closes.bytes.now
-spelt_by (Registration identity who) = registration identity.now who
+spelt_by (Registration identity who) = registration identity.bytes.now who
 spelt_by (Trade buyer seller price contracts) = trade buyer.bytes.now seller.bytes.now price.bytes.now contracts.bytes.now
 spelt_by (Quotation price quantity) = quotation price.bytes.now quantity.bytes.now
 spelt_by (Notice seller contracts) = notice seller.bytes.now contracts.bytes.now
@@ -35,7 +35,7 @@ Starts at (Err fault) = Unit {0}
 
 -- an identity has its 14 bytes
 abbrev pub Identified : Content → Type 0
-Identified (Registration identity who) = length identity.now ≡ 14
+Identified (Registration identity who) = length identity.bytes.now ≡ 14
 Identified _ = Unit {0}
 
 -- and so has a record that came

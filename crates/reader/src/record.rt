@@ -1,13 +1,14 @@
 // Records, and how one is read from its line.
-ghost use Rattle.std.specs.Prelude.{◌≡◌, ◌+◌, ◌^◌, ◌<◌, ◌≤◌, length, IfSome};
+ghost use Rattle.std.specs.Prelude.{◌≡◌, ◌+◌, ◌^◌, ◌<◌, ◌≤◌, length};
 ghost use Rattle.std.specs.Option.{option_map};
 ghost use Rattle.reader.specs.Layouts.{layout};
 ghost use Rattle.reader.specs.Readings.{part, residency_of, spelling, ticker_of, written};
-ghost use Rattle.reader.specs.Saying.{spelt, spelt_by, Identified, Starts, Whole};
+ghost use Rattle.reader.specs.Saying.{spelt, spelt_by, Starts};
 ghost use Rattle.reader.specs.declared.layout.Mark.TheVariants.{Opening};
 
 use crate::digits::Digits;
 use crate::fault::ReadFault;
+use crate::identity::IdentityBytes;
 use crate::layout::Mark;
 use kinds::months::Ticker;
 use money::currency::Residency;
@@ -31,7 +32,7 @@ pub enum Content<'a> {
         closes: Digits<'a>,
     },
     Registration {
-        identity: &'a [u8],
+        identity: IdentityBytes<'a>,
         residency: Residency,
     },
     Trade {
@@ -101,7 +102,6 @@ fn digits(line: &[u8], from: usize, width: usize) -> Digits<'_>
 fn opening(line: &[u8]) -> Option<Content<'_>>
     requires within { 17 ≤ length line.now }
     ensures value { option_map spelt_by result ≡ written Opening line.now }
-    ensures whole { IfSome result Identified }
 {
     let ticker = ticker(line)?;
     let month = ticker.listed_month(char::from(line[5]))?;
@@ -119,12 +119,13 @@ fn opening(line: &[u8]) -> Option<Content<'_>>
 fn cut(mark: Mark, line: &[u8]) -> Option<Content<'_>>
     requires within { 2 + length (layout mark) ≤ length line.now }
     ensures value { option_map spelt_by result ≡ written mark line.now }
-    ensures whole { IfSome result Identified }
 {
     let content = match mark {
         Mark::Opening => return opening(line),
         Mark::Registration => Content::Registration {
-            identity: part(line, 2, 14),
+            identity: IdentityBytes {
+                bytes: part(line, 2, 14),
+            },
             residency: residency(line[16]),
         },
         Mark::Trade => Content::Trade {
@@ -160,7 +161,6 @@ pub(crate) fn read_line<'a>(
     requires fits { at + length line.now < 2 ^ 64 }
     ensures value { spelt result ≡ spelling opened at line.now }
     ensures starts { Starts at result }
-    ensures whole { Whole result }
 {
     let Some(mark) = Mark::of(line) else {
         return Err(ReadFault::UnknownMark(at));
