@@ -1,10 +1,9 @@
 -- How many rows a call writes.
-use Rattle.std.proofs.Common.{◌≡◌, ℕ, ◌≤◌, List, [], ◌∷◌, length, Some, None, Option, sym, refl, ap, ◌∙◌, zero-le, arith}
+use Rattle.std.proofs.Common.{◌≡◌, ℕ, ◌≤◌, List, [], ◌∷◌, length, Some, None, Err, Option, sym, refl, ap, ◌∙◌, zero-le, arith}
 use Rattle.std.proofs.lemmas.List.{length-map}
 use Rattle.std.proofs.lemmas.Bool.{leb-true}
 use Rattle.kinds.specs.Meaning.{Meaning}
-use Rattle.tally.specs.declared.call.Answer.{Answer}
-use Rattle.tally.specs.declared.call.Answer.TheVariants.{Refused}
+use Rattle.tally.specs.Answers.{Answer}
 use Rattle.tally.specs.declared.call.Call.{Call}
 use Rattle.tally.specs.declared.call.Call.TheVariants as call
 use Rattle.tally.specs.declared.rows.Account.{Account}
@@ -41,7 +40,7 @@ accepted_rows c v (expiring (Some final) room) = sym (page_long c v.rate (by_exp
 
 rows_counted : (c : Terms) (v : View) (e : Event) → rows_by (reply c v e) (length v.accounts) ≡ length (written c v e)
 rows_counted c v e =
-    elim (verdict c v e) as (λ o. rows_by (elim o as (λ _. Answer) [ None ↦ answer c v e | Some r ↦ Refused r ]) (length v.accounts) ≡ length (elim o as (λ _. List PageRow) [ None ↦ rows_of (page_of c v e) | Some _ ↦ [] ]))
+    elim (verdict c v e) as (λ o. rows_by (elim o as (λ _. Answer) [ None ↦ answer c v e | Some r ↦ Err r ]) (length v.accounts) ≡ length (elim o as (λ _. List PageRow) [ None ↦ rows_of (page_of c v e) | Some _ ↦ [] ]))
     [ None ↦ accepted_rows c v e | Some r ↦ refl ]
 
 -- the answer and the accounts say how many rows were written

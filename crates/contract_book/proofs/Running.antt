@@ -1,7 +1,7 @@
 -- A whole run: what a book built over a kind answers, writes and shows is what the tally's log has.
 use Rattle.std.proofs.Common.{◌≡◌, ℕ, true, false, List, [], ◌∷◌, ◌++◌, map, length, take, fold, refl, ap, ◌∙◌, subst}
 use Rattle.kinds.specs.Meaning.{Meaning}
-use Rattle.tally.specs.declared.call.Answer.{Answer}
+use Rattle.tally.specs.Answers.{Answer}
 use Rattle.tally.specs.declared.call.Call.{Call}
 use Rattle.tally.specs.declared.rows.PageRow.{PageRow}
 use Rattle.tally.specs.Book.{Tally, Terms, View, numbered, seen}

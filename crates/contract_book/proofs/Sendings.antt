@@ -3,7 +3,7 @@ use Rattle.std.proofs.Common.{◌≡◌, ℕ, ◌+◌, ◌-◌, ◌<◌, ◌≤�
 use borrow.Rule.Slice.PartMut.{put_mid}
 use Rattle.std.proofs.lemmas.List.{append_assoc, append-nil, take_more, take_more_set, drop-set-lt, drop-drop, take_at, drop_at, drop_all, length-append, length-take-le, length-drop}
 use Rattle.kinds.specs.Meaning.{Meaning}
-use Rattle.tally.specs.declared.call.Answer.{Answer}
+use Rattle.tally.specs.Answers.{Answer}
 use Rattle.tally.specs.declared.call.Call.{Call}
 use Rattle.tally.specs.declared.rows.PageRow.{PageRow}
 use Rattle.tally.specs.Events.{Request}

@@ -2,7 +2,7 @@
 use Rattle.std.specs.Prelude.{◌≡◌, ℕ, ◌≤◌, min, List, [], ◌∷◌, ◌++◌, map, length, take, drop}
 use Rattle.kinds.specs.Meaning.{Meaning}
 use Rattle.tally.specs.declared.rows.PageRow.{PageRow}
-use Rattle.tally.specs.declared.call.Answer.{Answer}
+use Rattle.tally.specs.Answers.{Answer}
 use Rattle.tally.specs.declared.call.Call.{Call}
 use Rattle.tally.specs.Events.{Event, Request, events, kind_then}
 use Rattle.tally.specs.Law.{Settled}

@@ -1,9 +1,9 @@
 -- Where a book over a kind stands, and where calls lead it.
-use Rattle.std.specs.Prelude.{◌≡◌, ℕ, ◌-◌, List, [], ◌∷◌, ◌++◌, length}
+use Rattle.std.specs.Prelude.{◌≡◌, ℕ, ◌-◌, List, [], ◌∷◌, ◌++◌, length, Ok, Err}
 use Rattle.kinds.specs.Meaning.{Meaning}
 use Rattle.tally.specs.declared.rows.PageRow.{PageRow}
-use Rattle.tally.specs.declared.call.Answer.{Answer}
-use Rattle.tally.specs.declared.call.Answer.TheVariants.{Refused, Numbered, Accepted, Designated, Paid}
+use Rattle.tally.specs.Answers.{Answer}
+use Rattle.tally.specs.declared.call.Reply.TheVariants.{Numbered, Accepted, Designated, Paid}
 use Rattle.tally.specs.declared.call.Call.{Call}
 use Rattle.tally.specs.Book.{Terms, View}
 use Rattle.tally.specs.Events.{Event, Request, event, kind_after}
@@ -43,11 +43,11 @@ rows_to m s r = written s.terms s.view (met m s r)
 
 -- how many rows a call has written by its answer: one for each account where it was paid
 abbrev pub rows_by : Answer → ℕ → ℕ
-rows_by (Refused refusal) accounts = 0
-rows_by (Numbered number) accounts = 0
-rows_by Accepted accounts = 0
-rows_by (Designated designation) accounts = 0
-rows_by (Paid totals) accounts = accounts
+rows_by (Err refusal) accounts = 0
+rows_by (Ok (Numbered number)) accounts = 0
+rows_by (Ok Accepted) accounts = 0
+rows_by (Ok (Designated designation)) accounts = 0
+rows_by (Ok (Paid totals)) accounts = accounts
 
 -- requests one after the other: where they lead, what each is answered, and all rows that they write
 unfoldable pub stands : {K : Type 0} → Meaning K → Stand K → List Request → Stand K

@@ -1,7 +1,7 @@
 // The calls of a book, one by one: each says what the rules say, and leads where they lead, after any history.
 ghost use Rattle.std.specs.Prelude.{◌≡◌, Bool, false, List, [], ◌∷◌, ◌++◌, length, is_ok};
 ghost use Rattle.tally.specs.Events.{Request};
-ghost use Rattle.tally.specs.declared.call.Answer.TheVariants.{Designated, Numbered, Paid};
+ghost use Rattle.tally.specs.declared.call.Reply.TheVariants.{Designated, Numbered, Paid};
 ghost use Rattle.tally.specs.declared.call.Call.TheVariants as call;
 ghost use Rattle.ledger.specs.Told.{over, plainly, told};
 ghost use Rattle.contract_book.specs.Books.{stand};

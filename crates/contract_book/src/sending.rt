@@ -1,7 +1,6 @@
 // Calls sent one after the other, and a whole run from the building on.
 ghost use Rattle.std.specs.Prelude.{◌≡◌, ◌≤◌, false, List, length, is_ok, MatchResult};
 ghost use Rattle.tally.specs.Events.{Request};
-ghost use Rattle.tally.specs.Logs.{is_accepted};
 ghost use Rattle.tally.specs.Questions.{is_buildable};
 ghost use Rattle.tally.specs.declared.refusal.Refusal.TheVariants.{Unbuildable};
 ghost use Rattle.ledger.specs.Told.{over};
@@ -9,10 +8,9 @@ ghost use Rattle.contract_book.specs.Books.{stand};
 ghost use Rattle.contract_book.specs.Sendings.{Ran, Sent};
 ghost use Rattle.contract_book.specs.Stands.{Stand, answer_to, asked, next, rows_by, rows_to, stands, terms_on};
 
-use crate::answers::answered;
 use crate::state::{Book, Unbuilt};
 use kinds::contract::Contract;
-use tally::call::{Answer, Call};
+use tally::call::{Answer, Call, Reply};
 use tally::refusal::Refusal;
 use tally::rows::PageRow;
 
@@ -42,7 +40,7 @@ fn page_rows(answer: Answer, accounts: usize) -> usize
     ensures { result ≡ rows_by answer accounts }
 {
     match answer {
-        Answer::Paid(_) => accounts,
+        Ok(Reply::Paid(_)) => accounts,
         _ => 0,
     }
 }
@@ -53,16 +51,16 @@ impl<K: Contract> Book<K> {
         ensures answers { result ≡ answer_to K.Contract.means (stand self.old) (asked call (length page.old)) }
         ensures leads { stand self.new ≡ next K.Contract.means (stand self.old) (asked call (length page.old)) }
         ensures page { page.new ≡ over (rows_to K.Contract.means (stand self.old) (asked call (length page.old))) page.old }
-        ensures same { is_accepted result ≡ false → self.new ≡ self.old }
+        ensures same { is_ok result ≡ false → self.new ≡ self.old }
     {
         match call {
-            Call::Register(registration) => answered(self.register(registration)),
-            Call::Trade(trade) => answered(self.trade(trade)),
-            Call::Quote(quotation) => answered(self.quote(quotation)),
-            Call::Notify(notification) => answered(self.notify(notification)),
-            Call::Designate => answered(self.designate()),
-            Call::Mark(marking) => answered(self.mark(marking, page)),
-            Call::Expire => answered(self.expire(page)),
+            Call::Register(registration) => self.register(registration).map(Reply::Numbered),
+            Call::Trade(trade) => self.trade(trade).map(|()| Reply::Accepted),
+            Call::Quote(quotation) => self.quote(quotation).map(|()| Reply::Accepted),
+            Call::Notify(notification) => self.notify(notification).map(|()| Reply::Accepted),
+            Call::Designate => self.designate().map(Reply::Designated),
+            Call::Mark(marking) => self.mark(marking, page).map(Reply::Paid),
+            Call::Expire => self.expire(page).map(Reply::Paid),
         }
     }
 

@@ -1,5 +1,5 @@
 -- Page rows never run out: a run that shares 16,704 of them is answered as one whose pages have 64 rows each.
-use Rattle.std.proofs.Common.{◌≡◌, ℕ, ◌+◌, ◌-◌, ◌*◌, ◌≤◌, true, false, cond, not, ◌&&◌, eqb, ltb, leb, List, [], ◌∷◌, ◌++◌, map, length, Some, None, Option, sym, refl, ap, ◌∙◌, arith}
+use Rattle.std.proofs.Common.{◌≡◌, ℕ, ◌+◌, ◌-◌, ◌*◌, ◌≤◌, true, false, cond, not, ◌&&◌, eqb, ltb, leb, List, [], ◌∷◌, ◌++◌, map, length, Some, None, Err, Option, sym, refl, ap, ◌∙◌, arith}
 use lib.ListN.{length-map}
 use Rattle.std.proofs.lemmas.List.{length-append}
 use Rattle.std.proofs.lemmas.Bool.{and_parts, eqb-true, le-leb, leb-true, ltb-true, not-true}
@@ -7,7 +7,6 @@ use Rattle.kinds.specs.Meaning.{Meaning}
 use Rattle.tally.specs.declared.call.Call.{Call}
 use Rattle.tally.specs.declared.call.Call.TheVariants as call
 use Rattle.tally.specs.declared.call.Marking.{Marking}
-use Rattle.tally.specs.declared.call.Answer.TheVariants.{Refused}
 use Rattle.tally.specs.declared.refusal.Refusal.TheVariants.{PageShort}
 use Rattle.tally.specs.declared.rows.Account.{Account}
 use Rattle.tally.specs.declared.rows.Lot.{Lot}
@@ -130,7 +129,7 @@ alike_itself c t e = record { verdicts = refl; answers = refl; papers = refl; en
 
 module _ {c : Terms} {t : Tally} {e f : Event} (a : Alike c t e f) where
   same_reply : reply c (seen c.size t) e ≡ reply c (seen c.size t) f
-  same_reply = λ i. elim (a.verdicts i) [ None ↦ a.answers i | Some r ↦ Refused r ]
+  same_reply = λ i. elim (a.verdicts i) [ None ↦ a.answers i | Some r ↦ Err r ]
 
   same_rows : written c (seen c.size t) e ≡ written c (seen c.size t) f
   same_rows = λ i. elim (a.verdicts i) [ None ↦ rows_of (a.papers i) | Some _ ↦ [] ]

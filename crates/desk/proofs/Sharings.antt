@@ -6,7 +6,7 @@ use Rattle.kinds.specs.Meaning.{Meaning}
 use Rattle.reader.specs.Readings.{reading}
 use Rattle.tally.specs.Questions.{is_buildable}
 use Rattle.tally.specs.Runs.{Entry, log}
-use Rattle.tally.specs.declared.call.Answer.{Answer}
+use Rattle.tally.specs.Answers.{Answer}
 use Rattle.tally.specs.declared.call.Call.{Call}
 use Rattle.tally.specs.declared.rows.PageRow.{PageRow}
 use Rattle.contract_book.specs.Sendings.{Ran, rows_in}

@@ -80,59 +80,21 @@ pub fn build(building: Building) -> Result<AnyBook, Unmade> {
     }
 }
 
-// Makes the call of a book that the script names.
-fn make_call<K: Contract>(
-    book: &mut Book<K>,
-    call: Call,
-    page: &mut [PageRow],
-) -> Result<Answer, Refusal> {
-    match call {
-        Call::Register(registration) => {
-            let number = book.register(registration)?;
-            Ok(Answer::Numbered(number))
-        }
-        Call::Trade(trade) => {
-            book.trade(trade)?;
-            Ok(Answer::Accepted)
-        }
-        Call::Quote(quotation) => {
-            book.quote(quotation)?;
-            Ok(Answer::Accepted)
-        }
-        Call::Notify(notification) => {
-            book.notify(notification)?;
-            Ok(Answer::Accepted)
-        }
-        Call::Designate => {
-            let designation = book.designate()?;
-            Ok(Answer::Designated(designation))
-        }
-        Call::Mark(marking) => {
-            let sums = book.mark(marking, page)?;
-            Ok(Answer::Paid(sums))
-        }
-        Call::Expire => {
-            let sums = book.expire(page)?;
-            Ok(Answer::Paid(sums))
-        }
-    }
-}
-
 impl AnyBook {
     // Makes a call of the book, whichever kind it is over, and answers the book after it too.
-    pub fn serve(self, call: Call, page: &mut [PageRow]) -> (AnyBook, Result<Answer, Refusal>) {
+    pub fn serve(self, call: Call, page: &mut [PageRow]) -> (AnyBook, Answer) {
         match self {
             AnyBook::Delivering(mut book) => {
-                let reply = make_call(&mut book, call, page);
-                (AnyBook::Delivering(book), reply)
+                let answer = book.apply(call, page);
+                (AnyBook::Delivering(book), answer)
             }
             AnyBook::Average(mut book) => {
-                let reply = make_call(&mut book, call, page);
-                (AnyBook::Average(book), reply)
+                let answer = book.apply(call, page);
+                (AnyBook::Average(book), answer)
             }
             AnyBook::Five(mut book) => {
-                let reply = make_call(&mut book, call, page);
-                (AnyBook::Five(book), reply)
+                let answer = book.apply(call, page);
+                (AnyBook::Five(book), answer)
             }
         }
     }

@@ -7,7 +7,7 @@ use std::alloc::Global;
 use std::fmt::Write;
 use std::io;
 use tally::rows::PageRow;
-use telling::{tell_page, tell_reply, tell_unmade};
+use telling::{tell_answer, tell_page, tell_unmade};
 
 mod books;
 mod script;
@@ -46,8 +46,8 @@ fn send(
     out: &mut String,
 ) -> anyhow::Result<AnyBook> {
     let mut page = vec![in heap; UNTOUCHED; request.rows]?;
-    let (after, reply) = book.serve(request.call, &mut page);
-    tell_reply(reply, out)?;
+    let (after, answer) = book.serve(request.call, &mut page);
+    tell_answer(answer, out)?;
     if request.has_page() {
         tell_page(&page, out)?;
     }

@@ -2,7 +2,7 @@
 use crate::books::Unmade;
 use std::alloc::AllocError;
 use std::fmt::Write;
-use tally::call::Answer;
+use tally::call::{Answer, Reply};
 use tally::refusal::Refusal;
 use tally::rows::{Designation, PageRow, Sums};
 
@@ -40,13 +40,13 @@ pub fn tell_unmade(unmade: Unmade, out: &mut String) -> Result<(), AllocError> {
 }
 
 // What a call was answered.
-pub fn tell_reply(reply: Result<Answer, Refusal>, out: &mut String) -> Result<(), AllocError> {
-    match reply {
-        Ok(Answer::Numbered(number)) => writeln!(out, "ok {number}"),
-        Ok(Answer::Accepted) => writeln!(out, "ok"),
-        Ok(Answer::Designated(designation)) => tell_designation(designation, out),
-        Ok(Answer::Paid(sums)) => tell_sums(sums, out),
-        Ok(Answer::Refused(refusal)) | Err(refusal) => tell_refusal(refusal, out),
+pub fn tell_answer(answer: Answer, out: &mut String) -> Result<(), AllocError> {
+    match answer {
+        Ok(Reply::Numbered(number)) => writeln!(out, "ok {number}"),
+        Ok(Reply::Accepted) => writeln!(out, "ok"),
+        Ok(Reply::Designated(designation)) => tell_designation(designation, out),
+        Ok(Reply::Paid(sums)) => tell_sums(sums, out),
+        Err(refusal) => tell_refusal(refusal, out),
     }
 }
 

@@ -1,5 +1,5 @@
 -- A log with one entry more.
-use Rattle.std.proofs.Common.{◌≡◌, ℕ, ◌+◌, ◌*◌, ◌<◌, true, false, cond, eqb, ltb, List, [], ◌∷◌, ◌++◌, length, replicate, Some, None, sum, Option, sym, refl, ap, ◌∙◌, arith}
+use Rattle.std.proofs.Common.{◌≡◌, ℕ, ◌+◌, ◌*◌, ◌<◌, true, false, cond, eqb, ltb, List, [], ◌∷◌, ◌++◌, length, replicate, Some, None, is_ok, sum, Option, sym, refl, ap, ◌∙◌, arith}
 use Rattle.std.proofs.lemmas.List.{append_assoc, append-nil, length-append, length-replicate}
 use Rattle.std.proofs.lemmas.List.Sums.{sum_by-append}
 use Rattle.std.proofs.lemmas.Bool.{lt-ltb}
@@ -8,7 +8,7 @@ use Rattle.tally.specs.declared.rows.Notice.{Notice}
 use Rattle.tally.specs.declared.rows.Designation.{Designation}
 use Rattle.tally.specs.declared.call.Marking.{Marking}
 use Rattle.tally.specs.Book.{Posting, prices}
-use Rattle.tally.specs.Logs.{is_accepted, trade_in, notice_in, designation_in, marked_by, ended_by, is_marking, markings, closed, trades, designations, notices_from, last_marked, final_price, contracts_of, value_of, designated}
+use Rattle.tally.specs.Logs.{trade_in, notice_in, designation_in, marked_by, ended_by, is_marking, markings, closed, trades, designations, notices_from, last_marked, final_price, contracts_of, value_of, designated}
 use Rattle.tally.specs.Runs.{Entry}
 use Rattle.tally.proofs.Positions.{sum_replicate}
 
@@ -21,11 +21,11 @@ pub trades_append : (xs ys : List Entry) → trades (xs ++ ys) ≡ trades xs ++ 
 unfolding trades
 trades_append [] ys = refl
 trades_append (x ∷ xs) ys =
-    let own = cond (is_accepted x.answer) (trade_in x.event) [] in
+    let own = cond (is_ok x.answer) (trade_in x.event) [] in
     ap (λ l. own ++ l) (trades_append xs ys) ∙ sym (append_assoc own (trades xs) (trades ys))
 
 abbrev pub own_trades : Entry → List Trade
-own_trades x = cond (is_accepted x.answer) (trade_in x.event) []
+own_trades x = cond (is_ok x.answer) (trade_in x.event) []
 
 pub trades_push : (xs : List Entry) (x : Entry) → trades (xs ++ x ∷ []) ≡ trades xs ++ own_trades x
 unfolding trades
@@ -37,7 +37,7 @@ designations_push [] x = append-nil (designation_in x.answer)
 designations_push (y ∷ xs) x = ap (λ l. designation_in y.answer ++ l) (designations_push xs x) ∙ sym (append_assoc (designation_in y.answer) (designations xs) (designation_in x.answer))
 
 abbrev pub own_notices : ℕ → Entry → List Notice
-own_notices s x = cond (is_accepted x.answer) (notice_in s x.event) []
+own_notices s x = cond (is_ok x.answer) (notice_in s x.event) []
 
 pub notices_push : (s : ℕ) (xs : List Entry) (x : Entry) → notices_from s (xs ++ x ∷ []) ≡ notices_from s xs ++ own_notices (s + markings xs) x
 unfolding notices_from markings

@@ -1,5 +1,5 @@
 -- Notices in the log: contracts noticed are contracts designated, in order and once, followed by contracts standing.
-use Rattle.std.proofs.Common.{◌≡◌, ℕ, ◌+◌, ◌-◌, ◌<◌, ◌≤◌, Bool, true, false, cond, ltb, leb, List, [], ◌∷◌, ◌++◌, replicate, Some, None, filter, sym, refl, ap, ◌∙◌, ⊎_elim, arith}
+use Rattle.std.proofs.Common.{◌≡◌, ℕ, ◌+◌, ◌-◌, ◌<◌, ◌≤◌, Bool, true, false, cond, ltb, leb, List, [], ◌∷◌, ◌++◌, replicate, Some, None, Ok, Err, filter, sym, refl, ap, ◌∙◌, ⊎_elim, arith}
 use Rattle.std.specs.List.{AllByRecursion}
 use Rattle.std.proofs.lemmas.List.Elements.{filter-append}
 use Rattle.std.proofs.ByRecursion.{All-append, All-weaker}
@@ -9,8 +9,8 @@ use Rattle.tally.specs.declared.rows.Lot.{Lot}
 use Rattle.tally.specs.declared.rows.Notice.{Notice}
 use Rattle.tally.specs.declared.rows.Designation.{Designation}
 use Rattle.tally.specs.declared.rows.PageRow.{PageRow}
-use Rattle.tally.specs.declared.call.Answer.{Answer}
-use Rattle.tally.specs.declared.call.Answer.TheVariants.{Refused, Designated}
+use Rattle.tally.specs.Answers.{Answer}
+use Rattle.tally.specs.declared.call.Reply.TheVariants.{Designated}
 use Rattle.tally.specs.declared.call.Marking.{Marking}
 use Rattle.tally.specs.Book.{Terms, Tally, seen}
 use Rattle.tally.specs.Events.{Event, registering, trading, quoting, noticing, designating, marking, expiring}
@@ -117,7 +117,7 @@ module _ (c : Terms) (xs : List Entry) (t : Tally) (told : Told c xs t) (h : Sou
 
   -- ---- a designation
   served_designation : (x : Entry) (n : Notice) (ns : List Notice) (l : Lot) → t.notices ≡ n ∷ ns → n.session < t.session → x.event ≡ designating →
-      x.answer ≡ Designated (record { buyer = l.owner; seller = n.seller; contracts = paired n l; price = t.price }) → Served (xs ++ x ∷ []) (fed_designation t n l)
+      x.answer ≡ Ok (Designated (record { buyer = l.owner; seller = n.seller; contracts = paired n l; price = t.price })) → Served (xs ++ x ∷ []) (fed_designation t n l)
   unfolding fed_designation designated sellers
   served_designation x n ns l nx due event answered =
       let m = paired n l in
@@ -191,6 +191,6 @@ module _ (c : Terms) (xs : List Entry) (t : Tally) (told : Told c xs t) (h : Sou
       let v = seen c.size t in
       let o = verdict c v e in
       elim o as (λ a. o ≡ a → Served
-      (xs ++ record { event = e; answer = elim a as (λ _. Answer) [ None ↦ answer c v e | Some r ↦ Refused r ]; rows = elim a as (λ _. List PageRow) [ None ↦ rows_of (page_of c v e) | Some _ ↦ [] ] } ∷ [])
+      (xs ++ record { event = e; answer = elim a as (λ _. Answer) [ None ↦ answer c v e | Some r ↦ Err r ]; rows = elim a as (λ _. List PageRow) [ None ↦ rows_of (page_of c v e) | Some _ ↦ [] ] } ∷ [])
       (elim a as (λ _. Tally) [ None ↦ entered t e | Some _ ↦ t ]))
-      [ None ↦ served_entered e | Some r ↦ λ _. quiet_served xs (record { event = e; answer = Refused r; rows = [] }) t t refl refl served refl refl ] refl
+      [ None ↦ served_entered e | Some r ↦ λ _. quiet_served xs (record { event = e; answer = Err r; rows = [] }) t t refl refl served refl refl ] refl

@@ -1,5 +1,5 @@
 -- What each call tells: the log with its entry counts what the fed tally counts.
-use Rattle.std.proofs.Common.{◌≡◌, ℕ, ◌+◌, ◌*◌, ◌≤◌, Bool, true, false, not, ◌&&◌, eqb, List, [], ◌∷◌, ◌++◌, map, length, pos, ◌-ℤ◌, Some, None, sum, sym, refl, ap, ◌∙◌, arith}
+use Rattle.std.proofs.Common.{◌≡◌, ℕ, ◌+◌, ◌*◌, ◌≤◌, Bool, true, false, not, ◌&&◌, eqb, List, [], ◌∷◌, ◌++◌, map, length, pos, ◌-ℤ◌, Some, None, Ok, Err, sum, sym, refl, ap, ◌∙◌, arith}
 use Rattle.std.proofs.lemmas.List.{append_assoc, append-nil, map-append, length-replicate}
 use Rattle.std.proofs.lemmas.Bool.{and_parts, leb-true, ltb-true, eqb-true, not-true, false≢true}
 use Rattle.tally.specs.declared.rows.Trade.{Trade}
@@ -8,8 +8,8 @@ use Rattle.tally.specs.declared.rows.Notice.{Notice}
 use Rattle.tally.specs.declared.rows.Designation.{Designation}
 use Rattle.tally.specs.declared.rows.PageRow.{PageRow}
 use Rattle.tally.specs.declared.refusal.Refusal.{Refusal}
-use Rattle.tally.specs.declared.call.Answer.{Answer}
-use Rattle.tally.specs.declared.call.Answer.TheVariants.{Refused, Designated}
+use Rattle.tally.specs.Answers.{Answer}
+use Rattle.tally.specs.declared.call.Reply.TheVariants.{Designated}
 use Rattle.tally.specs.declared.call.Marking.{Marking}
 use Rattle.tally.specs.Account.{net}
 use Rattle.tally.specs.Book.{Terms, Tally, numbered, prices, carried, seen}
@@ -115,7 +115,7 @@ module _ (c : Terms) (xs : List Entry) (t : Tally) (told : Told c xs t) where
     designated_side bought = refl
     designated_side sold = refl
 
-    pub told_designation : (x : Entry) → x.event ≡ designating → x.answer ≡ Designated given → (t.expired ≡ true → ⊥) → Told c (xs ++ x ∷ []) (fed_designation t n l)
+    pub told_designation : (x : Entry) → x.event ≡ designating → x.answer ≡ Ok (Designated given) → (t.expired ≡ true → ⊥) → Told c (xs ++ x ∷ []) (fed_designation t n l)
     unfolding fed_designation
     told_designation x event answered alive =
         let unmarked : marked_by x ≡ None = rw (event, answered) refl in
@@ -256,15 +256,15 @@ module _ (c : Terms) (xs : List Entry) (t : Tally) (told : Told c xs t) where
       let at_end = and_parts (eqb t.session (c.last + 1)) (not t.expired) q22.1 in
       told_expiry final room (not-true t.expired at_end.1) (eqb-true t.session (c.last + 1) at_end.0) (h.mini (not-true c.delivers q22.0))
 
-  told_refused : (e : Event) (r : Refusal) → Told c (xs ++ record { event = e; answer = Refused r; rows = [] } ∷ []) t
+  told_refused : (e : Event) (r : Refusal) → Told c (xs ++ record { event = e; answer = Err r; rows = [] } ∷ []) t
   told_refused e r =
-      silent_told c xs (record { event = e; answer = Refused r; rows = [] }) t t (record { unmarked = refl; unended = refl; untraded = refl; undesignated = refl }) told refl refl refl refl refl refl refl (λ _. refl)
+      silent_told c xs (record { event = e; answer = Err r; rows = [] }) t t (record { unmarked = refl; unended = refl; untraded = refl; undesignated = refl }) told refl refl refl refl refl refl refl (λ _. refl)
 
   pub told_fed : Sound c t → (e : Event) → Told c (xs ++ entry c (seen c.size t) e ∷ []) (fed c t e)
   told_fed h e =
       let v = seen c.size t in
       let o = verdict c v e in
       elim o as (λ a. o ≡ a → Told c
-      (xs ++ record { event = e; answer = elim a as (λ _. Answer) [ None ↦ answer c v e | Some r ↦ Refused r ]; rows = elim a as (λ _. List PageRow) [ None ↦ rows_of (page_of c v e) | Some _ ↦ [] ] } ∷ [])
+      (xs ++ record { event = e; answer = elim a as (λ _. Answer) [ None ↦ answer c v e | Some r ↦ Err r ]; rows = elim a as (λ _. List PageRow) [ None ↦ rows_of (page_of c v e) | Some _ ↦ [] ] } ∷ [])
       (elim a as (λ _. Tally) [ None ↦ entered t e | Some _ ↦ t ]))
       [ None ↦ told_entered h e | Some r ↦ λ _. told_refused e r ] refl

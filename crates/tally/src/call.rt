@@ -36,10 +36,9 @@ pub enum Call {
     Expire,
 }
 
-// What a call is answered.
+// What an accepted call brings.
 #[derive(Clone, Copy)]
-pub enum Answer {
-    Refused(Refusal),
+pub enum Reply {
     // The number of a new account.
     Numbered(usize),
     Accepted,
@@ -47,3 +46,6 @@ pub enum Answer {
     // What the page comes to.
     Paid(Sums),
 }
+
+// What a call is answered.
+pub type Answer = Result<Reply, Refusal>;
