@@ -6,9 +6,8 @@ ghost use Rattle.contract_book.specs.Stands.{OnKind, Stand, next, built};
 use kinds::contract::Contract;
 
 // A book is built on its kind's terms, and every call keeps them so.
-pub fn terms_stay<K: Contract>() -> u8
+pub fn terms_stay<K: Contract>()
     ensures built { (k : K) (last opens closes : ℕ) → OnKind K.Contract.means (built K.Contract.means k last opens closes) }
     ensures kept { (s : Stand K) (r : Request) → OnKind K.Contract.means s → OnKind K.Contract.means (next K.Contract.means s r) }
 {
-    0
 }
