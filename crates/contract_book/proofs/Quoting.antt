@@ -13,6 +13,7 @@ use Rattle.tally.specs.Steps.{done}
 use Rattle.ledger.specs.declared.state.Ledger.{Ledger}
 use Rattle.ledger.specs.Ledgers.{view, terms_of}
 use Rattle.contract_book.specs.Stands.{Stand, asked, next}
+use Rattle.contract_book.proofs.Histories.{stands_push}
 
 -- no quotation changes what the book shows
 pub unchanged : (c : Terms) (v : View) (q : Quotation) (reply : Reply) → after c v (quoting q reply) ≡ v
@@ -28,3 +29,6 @@ unfit_stays m k q e =
 pub quoted : {K : Type 0} (m : Meaning K) (k k' : K) (l : Ledger) (q : Quotation) → k' ≡ m.after k q →
     ◌≡◌ {A = Stand K} (record { terms = terms_of l; kind = k'; view = view l }) (next m (record { terms = terms_of l; kind = k; view = view l }) (asked (Quote q) 0))
 quoted m k k' l q e = let u = unchanged (terms_of l) (view l) q (m.reply k q) in cc
+
+-- what says where a quotation leads, after any history
+pub ruleset quotations = (stands_push, quoted, unfit_stays)

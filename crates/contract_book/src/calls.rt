@@ -1,4 +1,6 @@
 // The calls of a book, one by one: each says what the rules say, and leads where they lead, after any history.
+#![tactic(auto, using(crate::proofs::Histories::stands_push))]
+
 ghost use Rattle.std.specs.Prelude.{◌≡◌, Bool, false, List, [], ◌∷◌, ◌++◌, length, is_ok};
 ghost use Rattle.tally.specs.Events.{Request};
 ghost use Rattle.tally.specs.declared.call.Reply.TheVariants.{Designated, Numbered, Paid};
@@ -9,19 +11,11 @@ ghost use Rattle.contract_book.specs.Stands.{Stand, answer_to, asked, next, rows
 
 use crate::state::Book;
 use kinds::contract::Contract;
-use kinds::quotation::{KindFault, Quotation};
+use kinds::quotation::Quotation;
 use money::units::Price;
 use tally::call::{Marking, Notification, Registration};
 use tally::refusal::Refusal;
 use tally::rows::{Designation, PageRow, Sums, Trade};
-
-// Hands a quotation to the kind.
-fn offer<K: Contract>(kind: &mut K, quotation: Quotation) -> Result<(), KindFault>
-    ensures answer { result ≡ K.Contract.means.reply kind.old quotation }
-    ensures after { kind.new ≡ K.Contract.means.after kind.old quotation }
-{
-    kind.quote(quotation)
-}
 
 impl<K: Contract> Book<K> {
     // Registers an account, and answers its number.
@@ -45,22 +39,21 @@ impl<K: Contract> Book<K> {
     }
 
     // Hands a quotation within the ranges to the kind.
+    #[tactic(auto, using(crate::proofs::Quoting::quotations), unfolding(tally::specs::Questions::questions, tally::specs::Questions::first_unmet))]
     pub fn quote(&mut self, quotation: Quotation) -> Result<(), Refusal>
         ensures answers { told plainly result ≡ answer_to K.Contract.means (stand self.old) (asked (call.Quote quotation) 0) }
         ensures leads { stand self.new ≡ next K.Contract.means (stand self.old) (asked (call.Quote quotation) 0) }
         ensures history { (s : Stand K) (h : List Request) → stand self.old ≡ stands K.Contract.means s h → stand self.new ≡ stands K.Contract.means s (h ++ (asked (call.Quote quotation) 0) ∷ []) }
         ensures same { is_ok result ≡ false → self.new ≡ self.old }
     {
-        if Price::new(quotation.price).is_none() {
+        let Quotation { price, quantity } = quotation;
+        if Price::new(price).is_none() {
             return Err(Refusal::Unpriced);
         }
-        if quotation.quantity < Quotation::LEAST_QUANTITY
-            || quotation.quantity > Quotation::GREATEST_QUANTITY
-        {
+        if !(Quotation::LEAST_QUANTITY..=Quotation::GREATEST_QUANTITY).contains(&quantity) {
             return Err(Refusal::Uncounted);
         }
-        offer(&mut self.kind, quotation)?;
-        Ok(())
+        Ok(self.kind.quote(quotation)?)
     }
 
     // Takes a seller's notice of delivery.
