@@ -5,6 +5,7 @@ use Rattle.tally.specs.declared.rows.PageRow.{PageRow}
 use Rattle.tally.specs.Answers.{Answer}
 use Rattle.tally.specs.declared.call.Reply.TheVariants.{Numbered, Accepted, Designated, Paid}
 use Rattle.tally.specs.declared.call.Call.{Call}
+use Rattle.tally.specs.declared.sessions.Sessions.{Sessions}
 use Rattle.tally.specs.Book.{Terms, View}
 use Rattle.tally.specs.Events.{Event, Request, event, kind_after}
 use Rattle.tally.specs.Runs.{after, opened, reply, written}
@@ -20,12 +21,16 @@ abbrev pub asked : Call → ℕ → Request
 asked call room = record { call = call; room = room }
 
 -- what a book over a kind is built on: four things are the kind's
-abbrev pub terms_on : {K : Type 0} → Meaning K → K → ℕ → ℕ → ℕ → Terms
-terms_on m k last opens closes = record { size = m.size k; currency = m.currency k; tick = m.tick k; delivers = m.delivers k; last = last; opens = opens; closes = closes }
+abbrev pub terms_on : {K : Type 0} → Meaning K → K → Sessions → Terms
+terms_on m k sessions = record { size = m.size k; currency = m.currency k; tick = m.tick k; delivers = m.delivers k; last = sessions.last; opens = sessions.opens; closes = sessions.closes }
+
+-- the other three
+abbrev pub sessions_of : Terms → Sessions
+sessions_of c = record { last = c.last; opens = c.opens; closes = c.closes }
 
 -- a book that has just been built
-abbrev pub built : {K : Type 0} → Meaning K → K → ℕ → ℕ → ℕ → Stand K
-built m k last opens closes = record { terms = terms_on m k last opens closes; kind = k; view = opened }
+abbrev pub built : {K : Type 0} → Meaning K → K → Sessions → Stand K
+built m k sessions = record { terms = terms_on m k sessions; kind = k; view = opened }
 
 -- a request as the book meets it, with what the kind says to it
 abbrev pub met : {K : Type 0} → Meaning K → Stand K → Request → Event
@@ -69,4 +74,4 @@ sharing m s room (x ∷ xs) = asked x room ∷ sharing m (next m s (asked x room
 
 -- the terms of a book are those of its kind
 abbrev pub OnKind : {K : Type 0} → Meaning K → Stand K → Type 0
-OnKind m s = s.terms ≡ terms_on m s.kind s.terms.last s.terms.opens s.terms.closes
+OnKind m s = s.terms ≡ terms_on m s.kind (sessions_of s.terms)

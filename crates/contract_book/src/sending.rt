@@ -13,6 +13,7 @@ use kinds::contract::Contract;
 use tally::call::{Answer, Call, Reply};
 use tally::refusal::Refusal;
 use tally::rows::PageRow;
+use tally::sessions::Sessions;
 
 // How many calls were served, and how many rows their pages have.
 #[derive(Clone, Copy)]
@@ -65,6 +66,7 @@ impl<K: Contract> Book<K> {
     }
 
     // Any call, with how many rows its page has.
+    #[tactic(auto, using(crate::proofs::Paying::rows_are))]
     fn serve(&mut self, call: Call, page: &mut [PageRow]) -> Served
         ensures answers { result.answer ≡ answer_to K.Contract.means (stand self.old) (asked call (length page.old)) }
         ensures leads { stand self.new ≡ next K.Contract.means (stand self.old) (asked call (length page.old)) }
@@ -84,8 +86,9 @@ impl<K: Contract> Book<K> {
     {
         let count = calls.len().min(log.len());
         let mut rows = 0;
-        for i in 0..count {
-            let served = self.serve(calls[i], &mut pages[rows..]);
+        let calls = &calls[..count];
+        for (i, &call) in calls.iter().enumerate() {
+            let served = self.serve(call, &mut pages[rows..]);
             log[i] = served.answer;
             rows += served.rows;
         }
@@ -95,17 +98,15 @@ impl<K: Contract> Book<K> {
     // A whole run: builds a book over the kind and sends it the calls. The settlement law holds of it, whatever the kind, the terms and the calls.
     pub fn run(
         kind: K,
-        last: u64,
-        opens: u64,
-        closes: u64,
+        sessions: Sessions,
         calls: &[Call],
         log: &mut [Answer],
         pages: &mut [PageRow],
     ) -> Result<Finished<K>, Unbuilt<K>>
-        ensures test { is_ok result ≡ is_buildable (terms_on K.Contract.means kind last opens closes) }
-        ensures law { MatchResult result (λ x. Ran K.Contract.means kind last opens closes calls.now log.old log.new pages.old pages.new (stand x.book) x.sending.calls x.sending.rows) (λ u. (u.kind ≡ kind) × (u.refusal ≡ Unbuildable) × (log.new ≡ log.old) × (pages.new ≡ pages.old)) }
+        ensures test { is_ok result ≡ is_buildable (terms_on K.Contract.means kind sessions) }
+        ensures law { MatchResult result (λ x. Ran K.Contract.means kind sessions calls.now log.old log.new pages.old pages.new (stand x.book) x.sending.calls x.sending.rows) (λ u. (u.kind ≡ kind) × (u.refusal ≡ Unbuildable) × (log.new ≡ log.old) × (pages.new ≡ pages.old)) }
     {
-        let mut book = Book::build(kind, last, opens, closes)?;
+        let mut book = Book::build(kind, sessions)?;
         let sending = book.send(calls, log, pages);
         Ok(Finished { book, sending })
     }

@@ -9,6 +9,7 @@ use money::currency::Currency;
 use tally::call::{Answer, Call};
 use tally::refusal::Refusal;
 use tally::rows::PageRow;
+use tally::sessions::Sessions;
 
 #[derive(Clone, Copy)]
 pub enum KindName {
@@ -24,9 +25,7 @@ pub struct Building {
     pub size: u64,
     pub currency: Currency,
     pub tick: u64,
-    pub last: u64,
-    pub opens: u64,
-    pub closes: u64,
+    pub sessions: Sessions,
 }
 
 // Why there is no book: its numbers make no terms, or it was refused.
@@ -53,7 +52,7 @@ impl Building {
 
     // A book over the kind, with the sessions and the window asked for.
     fn over<K: Contract + Drop>(self, kind: K) -> Result<Book<K>, Unmade> {
-        match Book::build(kind, self.last, self.opens, self.closes) {
+        match Book::build(kind, self.sessions) {
             Ok(book) => Ok(book),
             Err(unbuilt) => Err(Unmade::Refused(unbuilt.refusal)),
         }

@@ -5,6 +5,7 @@ use kinds::quotation::Quotation;
 use money::currency::{Currency, Residency};
 use tally::call::{Call, Marking, Notification, Registration};
 use tally::rows::{Identity, Trade};
+use tally::sessions::Sessions;
 
 // The most rows that a page is handed in with.
 const MOST_ROWS: u64 = 80;
@@ -63,9 +64,11 @@ fn building(words: &mut Words) -> Option<Building> {
         size: words.number()?,
         currency: currency(words)?,
         tick: words.number()?,
-        last: words.number()?,
-        opens: words.number()?,
-        closes: words.number()?,
+        sessions: Sessions {
+            last: words.number()?,
+            opens: words.number()?,
+            closes: words.number()?,
+        },
     })
 }
 
