@@ -1,11 +1,11 @@
 // A book over any of the three kinds.
-use contract_book::state::Book;
-use kinds::contract::Contract;
+use contract_book::state::{Book, Unbuilt};
 use kinds::delivering::Delivering;
 use kinds::indexes::LastFive;
 use kinds::terms::Terms;
 use kinds::weighted::WeightedAverage;
 use money::currency::Currency;
+use std::str::FromStr;
 use tally::call::{Answer, Call};
 use tally::refusal::Refusal;
 use tally::rows::PageRow;
@@ -18,6 +18,23 @@ pub enum KindName {
     Five,
 }
 
+// A word that names no kind.
+#[derive(Clone, Copy)]
+pub struct UnknownKind;
+
+impl FromStr for KindName {
+    type Err = UnknownKind;
+
+    fn from_str(word: &str) -> Result<KindName, UnknownKind> {
+        match word {
+            "delivering" => Ok(KindName::Delivering),
+            "average" => Ok(KindName::Average),
+            "five" => Ok(KindName::Five),
+            _ => Err(UnknownKind),
+        }
+    }
+}
+
 // What a book is asked to be built on.
 #[derive(Clone, Copy)]
 pub struct Building {
@@ -28,20 +45,6 @@ pub struct Building {
     pub sessions: Sessions,
 }
 
-// Why there is no book: its numbers make no terms, or it was refused.
-#[derive(Clone, Copy)]
-pub enum Unmade {
-    Terms,
-    Refused(Refusal),
-}
-
-#[derive(Drop)]
-pub enum AnyBook {
-    Delivering(Book<Delivering>),
-    Average(Book<WeightedAverage>),
-    Five(Book<LastFive>),
-}
-
 impl Building {
     // The terms of the kind, where there are such terms.
     fn terms(self) -> Option<Terms> {
@@ -49,52 +52,50 @@ impl Building {
         let tick = u32::try_from(self.tick).ok()?;
         Terms::new(size, self.currency, tick)
     }
+}
 
-    // A book over the kind, with the sessions and the window asked for.
-    fn over<K: Contract + Drop>(self, kind: K) -> Result<Book<K>, Unmade> {
-        match Book::build(kind, self.sessions) {
-            Ok(book) => Ok(book),
-            Err(unbuilt) => Err(Unmade::Refused(unbuilt.refusal)),
-        }
+// Why there is no book: its numbers make no terms, or it was refused.
+#[derive(Clone, Copy)]
+pub enum Unmade {
+    Terms,
+    Refused(Refusal),
+}
+
+impl<K: Drop> From<Unbuilt<K>> for Unmade {
+    fn from(unbuilt: Unbuilt<K>) -> Unmade {
+        Unmade::Refused(unbuilt.refusal)
     }
 }
 
-pub fn build(building: Building) -> Result<AnyBook, Unmade> {
-    let Some(terms) = building.terms() else {
-        return Err(Unmade::Terms);
-    };
-    match building.kind {
-        KindName::Delivering => {
-            let book = building.over(Delivering::new(terms))?;
-            Ok(AnyBook::Delivering(book))
-        }
-        KindName::Average => {
-            let book = building.over(WeightedAverage::new(terms))?;
-            Ok(AnyBook::Average(book))
-        }
-        KindName::Five => {
-            let book = building.over(LastFive::new(terms))?;
-            Ok(AnyBook::Five(book))
-        }
-    }
+// An enum and no `dyn`: what is built here is handed out, which a `dyn` cannot be.
+#[derive(Drop)]
+pub enum AnyBook {
+    Delivering(Book<Delivering>),
+    Average(Book<WeightedAverage>),
+    Five(Book<LastFive>),
 }
 
 impl AnyBook {
-    // Makes a call of the book, whichever kind it is over, and answers the book after it too.
-    pub fn serve(self, call: Call, page: &mut [PageRow]) -> (AnyBook, Answer) {
+    pub fn build(building: Building) -> Result<AnyBook, Unmade> {
+        let terms = building.terms().ok_or(Unmade::Terms)?;
+        let sessions = building.sessions;
+        Ok(match building.kind {
+            KindName::Delivering => {
+                AnyBook::Delivering(Book::build(Delivering::new(terms), sessions)?)
+            }
+            KindName::Average => {
+                AnyBook::Average(Book::build(WeightedAverage::new(terms), sessions)?)
+            }
+            KindName::Five => AnyBook::Five(Book::build(LastFive::new(terms), sessions)?),
+        })
+    }
+
+    // Makes a call of the book, whichever kind it is over.
+    pub fn apply(&mut self, call: Call, page: &mut [PageRow]) -> Answer {
         match self {
-            AnyBook::Delivering(mut book) => {
-                let answer = book.apply(call, page);
-                (AnyBook::Delivering(book), answer)
-            }
-            AnyBook::Average(mut book) => {
-                let answer = book.apply(call, page);
-                (AnyBook::Average(book), answer)
-            }
-            AnyBook::Five(mut book) => {
-                let answer = book.apply(call, page);
-                (AnyBook::Five(book), answer)
-            }
+            AnyBook::Delivering(book) => book.apply(call, page),
+            AnyBook::Average(book) => book.apply(call, page),
+            AnyBook::Five(book) => book.apply(call, page),
         }
     }
 }
