@@ -2,7 +2,7 @@
 use crate::books::Unmade;
 use std::fmt;
 use tally::call::{Answer, Reply};
-use tally::rows::{Designation, PageRow, Sums};
+use tally::rows::PageRow;
 
 impl fmt::Display for Unmade {
     fn fmt<W: fmt::Write>(&self, f: &mut fmt::Formatter<W>) -> fmt::Result {
@@ -22,26 +22,16 @@ impl fmt::Display for Told {
         match self.0 {
             Ok(Reply::Numbered(number)) => write!(f, "ok {number}"),
             Ok(Reply::Accepted) => f.write_str("ok"),
-            Ok(
-                Reply::Designated(
-                    Designation {
-                        buyer,
-                        seller,
-                        contracts,
-                        price,
-                    },
-                ),
-            ) => write!(f, "ok {buyer} {seller} {contracts} {price}"),
-            Ok(
-                Reply::Paid(
-                    Sums {
-                        reais,
-                        dollars,
-                        remainder,
-                        lines,
-                    },
-                ),
-            ) => write!(f, "ok {reais} {dollars} {remainder} {lines}"),
+            Ok(Reply::Designated(given)) => write!(
+                f,
+                "ok {} {} {} {}",
+                given.buyer, given.seller, given.contracts, given.price,
+            ),
+            Ok(Reply::Paid(sums)) => write!(
+                f,
+                "ok {} {} {} {}",
+                sums.reais, sums.dollars, sums.remainder, sums.lines,
+            ),
             Err(refusal) => write!(f, "no {}", refusal.number()),
         }
     }
