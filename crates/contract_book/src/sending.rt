@@ -86,6 +86,7 @@ impl<K: Contract> Book<K> {
         let count = calls.len().min(log.len());
         let mut rows = 0;
         let calls = &calls[..count];
+        // By index and no zip: the loop's invariant has no name for a log that its `iter_mut` has borrowed.
         for (i, &call) in calls.iter().enumerate() {
             let served = self.serve(call, &mut pages[rows..]);
             log[i] = served.answer;
