@@ -6,8 +6,8 @@ use Rattle.tally.proofs.Numbered.{prices_append, prices_one}
 use Rattle.tally.proofs.Ring.{times}
 
 first_same : (n m x : ℕ) → sum (take n (replicate m x)) ≡ x * min n m
-first_same zero m x = let e : min 0 m ≡ 0 = omega arith in omega (arith, times x e)
-first_same (suc n) zero x = let e : min (suc n) 0 ≡ 0 = omega arith in omega (arith, times x e)
+first_same zero m x = grind arith
+first_same (suc n) zero x = grind arith
 first_same (suc n) (suc m) x =
     let e : min (suc n) (suc m) ≡ min n m + 1 = omega arith in
     sum_by-cons (λ y. y) x (take n (replicate m x)) ∙ omega (arith, first_same n m x, times x e)
@@ -26,6 +26,4 @@ first_push (suc n) m x (y ∷ ys) =
 -- one row more
 pub first_row : (k n : ℕ) (ps : List Posting) (p : Posting) →
     sum (take n (prices k (ps ++ p ∷ []))) ≡ sum (take n (prices k ps)) + p.price * min (n - length (prices k ps)) (cond (eqb p.holder k) p.contracts 0)
-first_row k n ps p =
-    ap (λ l. sum (take n l)) (prices_append k ps (p ∷ []) ∙ ap (λ l. prices k ps ++ l) (prices_one k p))
-    ∙ first_push n (cond (eqb p.holder k) p.contracts 0) p.price (prices k ps)
+first_row k n ps p = grind (arith, prices_append, prices_one, first_push)
