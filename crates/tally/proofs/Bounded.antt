@@ -153,7 +153,6 @@ module _ (c : Terms) (windows : c.delivers ≡ false → c.closes ≡ 0) (t : Ta
   unfolding entered
   bounded_trade w e =
       let f = told w e in
-      let yes = λ (n : ℕ). ap (λ b. cond b w.contracts 0) (eq-eqb n n refl) in
       record {
         trades_in = All-push TradeIn t.waiting w d.trades_in f.fits;
         bought_in = λ k r. grind (arith, count_buys, shows, ne_eqb, cases_eq);
@@ -171,7 +170,6 @@ module _ (c : Terms) (windows : c.delivers ≡ false → c.closes ≡ 0) (t : Ta
   unfolding entered
   bounded_register p =
       let n = length t.parties in
-      let more : length (t.parties ++ p ∷ []) ≡ n + 1 = length-append t.parties (p ∷ []) in
       let q = waited n t.waiting h.balanced.traders in
       let pick = λ (P : ℕ → Type 0) (old : (k : ℕ) → Registered n k → P k) (new : (k : ℕ) → n < k → P k) (k : ℕ) (r : Registered (length (t.parties ++ p ∷ [])) k).
       ⊎_elim (λ (a : k < n + 1). old k (r.0, omega arith)) (λ (a : n + 1 ≤ k). new k (omega arith)) (cases_lt k (n + 1)) in
@@ -191,9 +189,6 @@ module _ (c : Terms) (windows : c.delivers ≡ false → c.closes ≡ 0) (t : Ta
   pub bounded_designation : (x : Notice) (l : Lot) (xs : List Notice) (ls : List Lot) → t.notices ≡ x ∷ xs → t.lots ≡ l ∷ ls → x.session < t.session → BoundedTally (fed_designation t x l)
   unfolding fed_designation next
   bounded_designation x l xs ls nx lx due_now =
-      let m = paired x l in
-      let got : Posting = record { holder = x.seller; price = t.price; contracts = m } in
-      let gave : Posting = record { holder = l.owner; price = t.price; contracts = m } in
       record {
         trades_in = d.trades_in;
         bought_in = d.bought_in;

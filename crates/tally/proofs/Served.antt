@@ -117,7 +117,6 @@ module _ (c : Terms) (xs : List Entry) (t : Tally) (told : Told c xs t) (h : Sou
   unfolding fed_designation designated sellers
   served_designation x n ns l nx due event answered =
       let m = paired n l in
-      let some : 1 ≤ n.count = (rw nx at h.ordered).2 in
       let part : Notice = notice_counting.recount n m in
       let d : Designation = record { buyer = l.owner; seller = n.seller; contracts = m; price = t.price } in
       let none : own_notices (1 + markings xs) x ≡ [] = rw (event, answered) refl in

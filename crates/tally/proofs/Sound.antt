@@ -160,7 +160,6 @@ module _ (c : Terms) (windows : c.delivers ≡ false → c.closes ≡ 0) (t : Ta
   pub sound_marking : (m : Marking) (room : ℕ) → Sound c (entered t (marking m room))
   unfolding entered fed_marking prices
   sound_marking m room =
-      let n = length t.parties in
       let changed : (k : ℕ) → Change = λ k. record { before = carried t k; after = today t k } in
       record {
         balanced = balanced_marking t m h.balanced;

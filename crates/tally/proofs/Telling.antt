@@ -116,7 +116,6 @@ module _ (c : Terms) (xs : List Entry) (t : Tally) (told : Told c xs t) where
     told_designation x event answered alive =
         let unmarked : marked_by x ≡ None = rw (event, answered) refl in
         let unended : ended_by x ≡ None = rw (event, answered) refl in
-        let untraded : own_trades x ≡ [] = rw (event, answered) refl in
         let one : designations (xs ++ x ∷ []) ≡ designations xs ++ given ∷ [] = designations_push xs x ∙ ap (λ a. designations xs ++ designation_in a) answered in
         record {
           session = grind (arith, markings_same);
