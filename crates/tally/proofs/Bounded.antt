@@ -4,7 +4,6 @@ use Rattle.std.proofs.Common.{◌≡◌, ℕ, zero, suc, ◌+◌, ◌*◌, ◌<�
 use borrow.Author.Differences.{up, down, sum_is_lem, neg_is}
 use Rattle.std.specs.List.{AllByRecursion}
 use Rattle.std.proofs.ByRecursion.{All-push, All-map, All-weaker, sum_by_le}
-use Rattle.std.proofs.lemmas.List.{length-append}
 use Rattle.std.proofs.lemmas.List.Sums.{sum_by-append}
 use Rattle.std.proofs.lemmas.Bool.{and_parts, leb-true, eq-eqb, ne_eqb, cases_eq, cases_lt, not-true, eqb-false}
 use Rattle.tally.specs.declared.rows.Account.{Account}
@@ -20,7 +19,7 @@ use Rattle.tally.specs.Events.{registering, trading, noticing}
 use Rattle.tally.specs.Law.{Registered}
 use Rattle.tally.specs.Questions.{questions, verdict, find, net_of, at_most_3000}
 use Rattle.tally.specs.Runs.{begun}
-use Rattle.tally.specs.Steps.{entered, paired, fed_marking, fed_designation, fed_expiry}
+use Rattle.tally.specs.Steps.{entered, fed_marking, fed_designation, fed_expiry}
 use Rattle.tally.proofs.Clock.{Clocked}
 use Rattle.tally.proofs.Facts.{met, between_is, someone, today, found, today_is, today_traded, count_buys, count_sells, one_is_0, prices_stranger}
 use Rattle.tally.proofs.Kept.{waited}

@@ -1,8 +1,6 @@
 -- The first contracts of a side of the sheet, row by row: the step of a loop over the sheet.
-use Rattle.std.proofs.Common.{◌≡◌, ℕ, zero, suc, ◌+◌, ◌-◌, ◌*◌, min, cond, eqb, List, [], ◌∷◌, ◌++◌, length, take, replicate, sum, ap, ◌∙◌, arith}
+use Rattle.std.proofs.Common.{◌≡◌, ℕ, zero, suc, ◌+◌, ◌-◌, ◌*◌, min, List, [], ◌∷◌, ◌++◌, length, take, replicate, sum, ap, ◌∙◌, arith}
 use Rattle.std.proofs.lemmas.List.Sums.{sum_by-cons}
-use Rattle.tally.specs.Book.{Posting, prices}
-use Rattle.tally.proofs.Numbered.{prices_append, prices_one}
 use Rattle.tally.proofs.Ring.{times}
 
 first_same : (n m x : ℕ) → sum (take n (replicate m x)) ≡ x * min n m
@@ -22,8 +20,3 @@ first_push zero m x (y ∷ ys) = let e : min (0 - length (y ∷ ys)) m ≡ 0 = o
 first_push (suc n) m x (y ∷ ys) =
     let e : min (suc n - length (y ∷ ys)) m ≡ min (n - length ys) m = omega arith in
     omega (arith, sum_by-cons (λ z. z) y (take n (ys ++ replicate m x)), sum_by-cons (λ z. z) y (take n ys), first_push n m x ys, times x e)
-
--- one row more
-pub first_row : (k n : ℕ) (ps : List Posting) (p : Posting) →
-    sum (take n (prices k (ps ++ p ∷ []))) ≡ sum (take n (prices k ps)) + p.price * min (n - length (prices k ps)) (cond (eqb p.holder k) p.contracts 0)
-first_row k n ps p = grind (arith, prices_append, prices_one, first_push)
