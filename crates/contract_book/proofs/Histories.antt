@@ -1,11 +1,9 @@
 -- Requests one after the other, and one request more.
-use Rattle.std.proofs.Common.{◌≡◌, ℕ, List, [], ◌∷◌, ◌++◌, Option, sym, refl, ap, ◌∙◌}
+use Rattle.std.proofs.Common.{arith}
+use Rattle.std.proofs.Common.{◌≡◌, List, [], ◌∷◌, ◌++◌, refl}
 use Rattle.std.proofs.lemmas.List.{append_assoc, append-nil}
 use Rattle.kinds.specs.Meaning.{Meaning}
-use Rattle.tally.specs.Events.{Event, Request, expiring}
-use Rattle.tally.specs.Runs.{after}
-use Rattle.ledger.specs.Ledgers.{view, terms_of}
-use Rattle.ledger.specs.declared.state.Ledger.{Ledger}
+use Rattle.tally.specs.Events.{Request}
 use Rattle.contract_book.specs.Stands.{Stand, answer_to, answers, next, pages, rows_to, stands}
 
 module _ {K : Type 0} (m : Meaning K) where
@@ -17,12 +15,12 @@ module _ {K : Type 0} (m : Meaning K) where
   pub answers_append : (s : Stand K) (h rs : List Request) → answers m s (h ++ rs) ≡ answers m s h ++ answers m (stands m s h) rs
   unfolding stands answers
   answers_append s [] rs = refl
-  answers_append s (r ∷ h) rs = ap (λ xs. answer_to m s r ∷ xs) (answers_append (next m s r) h rs)
+  answers_append s (r ∷ h) rs = grind (arith, answers_append (next m s r) h rs)
 
   pub pages_append : (s : Stand K) (h rs : List Request) → pages m s (h ++ rs) ≡ pages m s h ++ pages m (stands m s h) rs
   unfolding stands pages
   pages_append s [] rs = refl
-  pages_append s (r ∷ h) rs = ap (λ xs. rows_to m s r ++ xs) (pages_append (next m s r) h rs) ∙ sym (append_assoc (rows_to m s r) (pages m (next m s r) h) (pages m (stands m (next m s r) h) rs))
+  pages_append s (r ∷ h) rs = grind (arith, append_assoc, pages_append (next m s r) h rs)
 
   -- one request more
   pub stands_push : (s : Stand K) (h : List Request) (r : Request) → stands m s (h ++ r ∷ []) ≡ next m (stands m s h) r
@@ -35,17 +33,4 @@ module _ {K : Type 0} (m : Meaning K) where
 
   pub pages_push : (s : Stand K) (h : List Request) (r : Request) → pages m s (h ++ r ∷ []) ≡ pages m s h ++ rows_to m (stands m s h) r
   unfolding pages
-  pages_push s h r = pages_append s h (r ∷ []) ∙ ap (λ xs. pages m s h ++ xs) (append-nil (rows_to m (stands m s h) r))
-
-  -- a call after any history
-  pub goes_on : (t u : Stand K) (r : Request) → u ≡ next m t r → (s : Stand K) (h : List Request) → t ≡ stands m s h → u ≡ stands m s (h ++ r ∷ [])
-  goes_on t u r e s h p = e ∙ ap (λ x. next m x r) p ∙ sym (stands_push s h r)
-
--- a call that the ledger takes leads the book where it leads the ledger
-pub led : {K : Type 0} (k : K) (l l' : Ledger) (e : Event) → l'.terms ≡ l.terms → view l' ≡ after (terms_of l) (view l) e →
-    ◌≡◌ {A = Stand K} (record { terms = terms_of l'; kind = k; view = view l' }) (record { terms = terms_of l; kind = k; view = after (terms_of l) (view l) e })
-led k l l' e t v = cc
-
--- what is said of an expiry at one final price, said of the same one
-pub at_final : {X : Type 0} (of : Event → X) {room : ℕ} {f f' : Option ℕ} {a : X} → a ≡ of (expiring f room) → f ≡ f' → a ≡ of (expiring f' room)
-at_final of {room = room} e q = e ∙ ap (λ x. of (expiring x room)) q
+  pages_push s h r = grind (arith, pages_append, append-nil)

@@ -1,9 +1,10 @@
 -- A whole run: what a book built over a kind answers, writes and shows is what the tally's log has.
 use Rattle.std.proofs.Common.{◌≡◌, ℕ, true, false, List, [], ◌∷◌, ◌++◌, map, length, take, fold, refl, ap, ◌∙◌, subst}
 use Rattle.kinds.specs.Meaning.{Meaning}
-use Rattle.tally.specs.declared.call.Answer.{Answer}
+use Rattle.tally.specs.Answers.{Answer}
 use Rattle.tally.specs.declared.call.Call.{Call}
 use Rattle.tally.specs.declared.rows.PageRow.{PageRow}
+use Rattle.tally.specs.declared.sessions.Sessions.{Sessions}
 use Rattle.tally.specs.Book.{Tally, Terms, View, numbered, seen}
 use Rattle.tally.specs.Events.{Request, event, events, kind_after, kind_then}
 use Rattle.tally.specs.Law.{Buildable}
@@ -56,18 +57,18 @@ module _ {K : Type 0} (m : Meaning K) where
   opens_begun c = refl
 
   -- the terms of a kind, where the sessions and the window can be had
-  pub buildable : (k : K) (last opens closes : ℕ) → is_buildable (terms_on m k last opens closes) ≡ true → Buildable (terms_on m k last opens closes)
-  buildable k last opens closes e = record { built = e; sized = m.sized k }
+  pub buildable : (k : K) (sessions : Sessions) → is_buildable (terms_on m k sessions) ≡ true → Buildable (terms_on m k sessions)
+  buildable k sessions e = record { built = e; sized = m.sized k }
 
   -- calls sent to a book that was just built
-  pub ran : (k : K) (last opens closes : ℕ) (calls : List Call) (log₀ log₁ : List Answer) (pages₀ pages₁ : List PageRow) (s t : Stand K) (n rows : ℕ) →
-      is_buildable (terms_on m k last opens closes) ≡ true → s ≡ built m k last opens closes → Sent m (built m k last opens closes) s [] calls log₀ log₁ pages₀ pages₁ t n rows →
-      Ran m k last opens closes calls log₀ log₁ pages₀ pages₁ t n rows
+  pub ran : (k : K) (sessions : Sessions) (calls : List Call) (log₀ log₁ : List Answer) (pages₀ pages₁ : List PageRow) (s t : Stand K) (n rows : ℕ) →
+      is_buildable (terms_on m k sessions) ≡ true → s ≡ built m k sessions → Sent m (built m k sessions) s [] calls log₀ log₁ pages₀ pages₁ t n rows →
+      Ran m k sessions calls log₀ log₁ pages₀ pages₁ t n rows
   unfolding answers pages
-  ran k last opens closes calls log₀ log₁ pages₀ pages₁ s t n rows ok start given =
-      let s₀ = built m k last opens closes in
-      let c = terms_on m k last opens closes in
-      let b = buildable k last opens closes ok in
+  ran k sessions calls log₀ log₁ pages₀ pages₁ s t n rows ok start given =
+      let s₀ = built m k sessions in
+      let c = terms_on m k sessions in
+      let b = buildable k sessions ok in
       let windows = no_window c b in
       let x = subst (λ (z : Stand K). Sent m s₀ z [] calls log₀ log₁ pages₀ pages₁ t n rows) start given in
       let rs = sharing m s₀ (length pages₀) (take n calls) in

@@ -1,7 +1,6 @@
 // The book over any contract kind: its calls, a run of them, and the law of every run.
 #![tactic(auto)]
 
-mod answers;
 pub mod building;
 pub mod calls;
 pub mod laws;

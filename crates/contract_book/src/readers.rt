@@ -2,7 +2,7 @@
 ghost use Rattle.std.specs.Prelude.{◌≡◌};
 ghost use Rattle.ledger.specs.Ledgers.{terms_in};
 ghost use Rattle.contract_book.specs.Books.{stand};
-ghost use Rattle.contract_book.specs.Stands.{OnKind, terms_on};
+ghost use Rattle.contract_book.specs.Stands.{OnKind, sessions_of, terms_on};
 ghost use Rattle.contract_book.specs.Statements.{Stated};
 
 use crate::state::Book;
@@ -95,6 +95,7 @@ impl<K: Contract> Book<K> {
     }
 
     // The statement of the book: all that it shows. Some run of calls led to it, of which the settlement law holds; on its kind's terms where the book is on them.
+    #[tactic(auto, using(crate::proofs::Stating::stated, crate::proofs::Stating::stated_on))]
     pub fn statement(&self) -> Statement<'_>
         ensures accounts { result.accounts.now ≡ (stand self.now).view.accounts }
         ensures sheet { result.sheet.now ≡ (stand self.now).view.sheet }
@@ -105,7 +106,7 @@ impl<K: Contract> Book<K> {
         ensures rate { result.rate ≡ (stand self.now).view.rate }
         ensures expired { result.expired ≡ (stand self.now).view.expired }
         ensures law { ∥ Stated (stand self.now).terms (stand self.now).view ∥₁ }
-        ensures kind { OnKind K.Contract.means (stand self.now) → ∥ Stated (terms_on K.Contract.means (stand self.now).kind (stand self.now).terms.last (stand self.now).terms.opens (stand self.now).terms.closes) (stand self.now).view ∥₁ }
+        ensures kind { OnKind K.Contract.means (stand self.now) → ∥ Stated (terms_on K.Contract.means (stand self.now).kind (sessions_of (stand self.now).terms)) (stand self.now).view ∥₁ }
     {
         Statement {
             accounts: self.accounts(),

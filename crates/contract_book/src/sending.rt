@@ -1,20 +1,19 @@
 // Calls sent one after the other, and a whole run from the building on.
 ghost use Rattle.std.specs.Prelude.{◌≡◌, ◌≤◌, false, List, length, is_ok, MatchResult};
 ghost use Rattle.tally.specs.Events.{Request};
-ghost use Rattle.tally.specs.Logs.{is_accepted};
 ghost use Rattle.tally.specs.Questions.{is_buildable};
 ghost use Rattle.tally.specs.declared.refusal.Refusal.TheVariants.{Unbuildable};
 ghost use Rattle.ledger.specs.Told.{over};
 ghost use Rattle.contract_book.specs.Books.{stand};
 ghost use Rattle.contract_book.specs.Sendings.{Ran, Sent};
-ghost use Rattle.contract_book.specs.Stands.{Stand, answer_to, asked, next, rows_by, rows_to, stands, terms_on};
+ghost use Rattle.contract_book.specs.Stands.{Stand, Takes, asked, rows_by, rows_to, stands, terms_on};
 
-use crate::answers::answered;
 use crate::state::{Book, Unbuilt};
 use kinds::contract::Contract;
-use tally::call::{Answer, Call};
+use tally::call::{Answer, Call, Reply};
 use tally::refusal::Refusal;
 use tally::rows::PageRow;
+use tally::sessions::Sessions;
 
 // How many calls were served, and how many rows their pages have.
 #[derive(Clone, Copy)]
@@ -42,34 +41,34 @@ fn page_rows(answer: Answer, accounts: usize) -> usize
     ensures { result ≡ rows_by answer accounts }
 {
     match answer {
-        Answer::Paid(_) => accounts,
+        Ok(Reply::Paid(_)) => accounts,
         _ => 0,
     }
 }
 
 impl<K: Contract> Book<K> {
     // Any call: its answer, and its page at the top of the rows handed in.
+    #[tactic(auto, using(crate::proofs::Histories::stands_push))]
     pub fn apply(&mut self, call: Call, page: &mut [PageRow]) -> Answer
-        ensures answers { result ≡ answer_to K.Contract.means (stand self.old) (asked call (length page.old)) }
-        ensures leads { stand self.new ≡ next K.Contract.means (stand self.old) (asked call (length page.old)) }
+        ensures takes { Takes K.Contract.means (stand self.old) (asked call (length page.old)) result (stand self.new) }
         ensures page { page.new ≡ over (rows_to K.Contract.means (stand self.old) (asked call (length page.old))) page.old }
-        ensures same { is_accepted result ≡ false → self.new ≡ self.old }
+        ensures same { is_ok result ≡ false → self.new ≡ self.old }
     {
         match call {
-            Call::Register(registration) => answered(self.register(registration)),
-            Call::Trade(trade) => answered(self.trade(trade)),
-            Call::Quote(quotation) => answered(self.quote(quotation)),
-            Call::Notify(notification) => answered(self.notify(notification)),
-            Call::Designate => answered(self.designate()),
-            Call::Mark(marking) => answered(self.mark(marking, page)),
-            Call::Expire => answered(self.expire(page)),
+            Call::Register(registration) => self.register(registration).map(Reply::Numbered),
+            Call::Trade(trade) => self.trade(trade).map(|()| Reply::Accepted),
+            Call::Quote(quotation) => self.quote(quotation).map(|()| Reply::Accepted),
+            Call::Notify(notification) => self.notify(notification).map(|()| Reply::Accepted),
+            Call::Designate => self.designate().map(Reply::Designated),
+            Call::Mark(marking) => self.mark(marking, page).map(Reply::Paid),
+            Call::Expire => self.expire(page).map(Reply::Paid),
         }
     }
 
     // Any call, with how many rows its page has.
+    #[tactic(auto, using(crate::proofs::Paying::rows_are))]
     fn serve(&mut self, call: Call, page: &mut [PageRow]) -> Served
-        ensures answers { result.answer ≡ answer_to K.Contract.means (stand self.old) (asked call (length page.old)) }
-        ensures leads { stand self.new ≡ next K.Contract.means (stand self.old) (asked call (length page.old)) }
+        ensures takes { Takes K.Contract.means (stand self.old) (asked call (length page.old)) result.answer (stand self.new) }
         ensures page { page.new ≡ over (rows_to K.Contract.means (stand self.old) (asked call (length page.old))) page.old }
         ensures rows { result.rows ≡ length (rows_to K.Contract.means (stand self.old) (asked call (length page.old))) }
         ensures inside { result.rows ≤ length page.old }
@@ -86,8 +85,10 @@ impl<K: Contract> Book<K> {
     {
         let count = calls.len().min(log.len());
         let mut rows = 0;
-        for i in 0..count {
-            let served = self.serve(calls[i], &mut pages[rows..]);
+        let calls = &calls[..count];
+        // By index and no zip: the loop's invariant has no name for a log that its `iter_mut` has borrowed.
+        for (i, &call) in calls.iter().enumerate() {
+            let served = self.serve(call, &mut pages[rows..]);
             log[i] = served.answer;
             rows += served.rows;
         }
@@ -97,17 +98,15 @@ impl<K: Contract> Book<K> {
     // A whole run: builds a book over the kind and sends it the calls. The settlement law holds of it, whatever the kind, the terms and the calls.
     pub fn run(
         kind: K,
-        last: u64,
-        opens: u64,
-        closes: u64,
+        sessions: Sessions,
         calls: &[Call],
         log: &mut [Answer],
         pages: &mut [PageRow],
     ) -> Result<Finished<K>, Unbuilt<K>>
-        ensures test { is_ok result ≡ is_buildable (terms_on K.Contract.means kind last opens closes) }
-        ensures law { MatchResult result (λ x. Ran K.Contract.means kind last opens closes calls.now log.old log.new pages.old pages.new (stand x.book) x.sending.calls x.sending.rows) (λ u. (u.kind ≡ kind) × (u.refusal ≡ Unbuildable) × (log.new ≡ log.old) × (pages.new ≡ pages.old)) }
+        ensures test { is_ok result ≡ is_buildable (terms_on K.Contract.means kind sessions) }
+        ensures law { MatchResult result (λ x. Ran K.Contract.means kind sessions calls.now log.old log.new pages.old pages.new (stand x.book) x.sending.calls x.sending.rows) (λ u. (u.kind ≡ kind) × (u.refusal ≡ Unbuildable) × (log.new ≡ log.old) × (pages.new ≡ pages.old)) }
     {
-        let mut book = Book::build(kind, last, opens, closes)?;
+        let mut book = Book::build(kind, sessions)?;
         let sending = book.send(calls, log, pages);
         Ok(Finished { book, sending })
     }

@@ -1,13 +1,13 @@
 -- Page rows never run out: a run that shares 16,704 of them is answered as one whose pages have 64 rows each.
-use Rattle.std.proofs.Common.{◌≡◌, ℕ, ◌+◌, ◌-◌, ◌*◌, ◌≤◌, true, false, cond, not, ◌&&◌, eqb, ltb, leb, List, [], ◌∷◌, ◌++◌, map, length, Some, None, Option, sym, refl, ap, ◌∙◌, arith}
+use Rattle.std.proofs.Common.{◌≡◌, ℕ, ◌+◌, ◌-◌, ◌*◌, ◌≤◌, true, false, cond, not, ◌&&◌, eqb, ltb, leb, List, [], ◌∷◌, ◌++◌, map, length, Some, None, Err, Option, sym, refl, ap, ◌∙◌, arith}
 use lib.ListN.{length-map}
 use Rattle.std.proofs.lemmas.List.{length-append}
 use Rattle.std.proofs.lemmas.Bool.{and_parts, eqb-true, le-leb, leb-true, ltb-true, not-true}
 use Rattle.kinds.specs.Meaning.{Meaning}
 use Rattle.tally.specs.declared.call.Call.{Call}
+use Rattle.tally.specs.declared.sessions.Sessions.{Sessions}
 use Rattle.tally.specs.declared.call.Call.TheVariants as call
 use Rattle.tally.specs.declared.call.Marking.{Marking}
-use Rattle.tally.specs.declared.call.Answer.TheVariants.{Refused}
 use Rattle.tally.specs.declared.refusal.Refusal.TheVariants.{PageShort}
 use Rattle.tally.specs.declared.rows.Account.{Account}
 use Rattle.tally.specs.declared.rows.Lot.{Lot}
@@ -130,7 +130,7 @@ alike_itself c t e = record { verdicts = refl; answers = refl; papers = refl; en
 
 module _ {c : Terms} {t : Tally} {e f : Event} (a : Alike c t e f) where
   same_reply : reply c (seen c.size t) e ≡ reply c (seen c.size t) f
-  same_reply = λ i. elim (a.verdicts i) [ None ↦ a.answers i | Some r ↦ Refused r ]
+  same_reply = λ i. elim (a.verdicts i) [ None ↦ a.answers i | Some r ↦ Err r ]
 
   same_rows : written c (seen c.size t) e ≡ written c (seen c.size t) f
   same_rows = λ i. elim (a.verdicts i) [ None ↦ rows_of (a.papers i) | Some _ ↦ [] ]
@@ -197,9 +197,9 @@ module _ {K : Type 0} (m : Meaning K) (c : Terms) (b : Buildable c) where
       record { answers = λ i. replies i ∷ answers_on i; rows = λ i. pages i ++ rows_on i }
 
 -- a whole run tells the same
-pub same_run : {K : Type 0} (m : Meaning K) (k : K) (last opens closes room : ℕ) (xs : List Call) → is_buildable (terms_on m k last opens closes) ≡ true → 16704 ≤ room →
-    SameTold (log (terms_on m k last opens closes) (run_of m k last opens closes room xs)) (log (terms_on m k last opens closes) (events_by (course m) k xs))
+pub same_run : {K : Type 0} (m : Meaning K) (k : K) (sessions : Sessions) (room : ℕ) (xs : List Call) → is_buildable (terms_on m k sessions) ≡ true → 16704 ≤ room →
+    SameTold (log (terms_on m k sessions) (run_of m k sessions room xs)) (log (terms_on m k sessions) (events_by (course m) k xs))
 unfolding numbered
-same_run m k last opens closes room xs built enough =
-    let c = terms_on m k last opens closes in
+same_run m k sessions room xs built enough =
+    let c = terms_on m k sessions in
     same_from m c (record { built = built; sized = m.sized k }) begun (sound_begun c) room (record { few = omega arith; left = omega arith }) k xs

@@ -6,7 +6,7 @@ use Rattle.kinds.specs.Meaning.{Meaning}
 use Rattle.reader.specs.Readings.{reading}
 use Rattle.tally.specs.Questions.{is_buildable}
 use Rattle.tally.specs.Runs.{Entry, log}
-use Rattle.tally.specs.declared.call.Answer.{Answer}
+use Rattle.tally.specs.Answers.{Answer}
 use Rattle.tally.specs.declared.call.Call.{Call}
 use Rattle.tally.specs.declared.rows.PageRow.{PageRow}
 use Rattle.contract_book.specs.Sendings.{Ran, rows_in}
@@ -31,14 +31,14 @@ few_calls p (line ∷ rest) = omega (arith, one_call (call_of (reading true p li
 
 -- the text of a run, from its log and pages
 pub run_told : {K : Type 0} (m : Meaning K) (k : K) (o : Opening) (records place : ℕ) (ls : List (List ℕ)) (calls : List Call) (log₀ log₁ : List Answer) (pages₀ pages₁ : List PageRow) (s : Stand K) (n rows : ℕ) →
-    terms_on m k o.last o.opens o.closes ≡ terms_for o → is_buildable (terms_for o) ≡ true → calls ≡ calls_in place ls → length ls ≤ length log₀ → 16704 ≤ length pages₀ →
-    Ran m k o.last o.opens o.closes calls log₀ log₁ pages₀ pages₁ s n rows →
+    terms_on m k o.sessions ≡ terms_for o → is_buildable (terms_for o) ≡ true → calls ≡ calls_in place ls → length ls ≤ length log₀ → 16704 ≤ length pages₀ →
+    Ran m k o.sessions calls log₀ log₁ pages₀ pages₁ s n rows →
     telling (starting records place (take n log₁) (take rows pages₁)) ls ≡ log_text records place (log_by (course m) k o place ls) ls
 run_told m k o records place ls calls log₀ log₁ pages₀ pages₁ s n rows terms built gathered long enough ran =
     let few = few_calls place ls in
-    let c = terms_on m k o.last o.opens o.closes in
+    let c = terms_on m k o.sessions in
     let all : take n calls ≡ calls_in place ls = take_all n calls (omega (arith, ran.served, few, ap length gathered)) ∙ gathered in
-    let same = same_run m k o.last o.opens o.closes (length pages₀) (take n calls) (ap is_buildable terms ∙ built) enough in
+    let same = same_run m k o.sessions (length pages₀) (take n calls) (ap is_buildable terms ∙ built) enough in
     let entries : log c (events_by (course m) k (take n calls)) ≡ log_by (course m) k o place ls = λ i. log (terms i) (events_by (course m) k (all i)) in
     let answers = ran.logged ∙ same.answers ∙ ap (map (λ (x : Entry). x.answer)) entries in
     let pages = ran.paged ∙ same.rows ∙ ap rows_in entries in

@@ -1,5 +1,5 @@
 -- Answers told one after the other.
-use Rattle.std.proofs.Common.{◌≡◌, ℕ, ◌+◌, ◌-◌, ◌<◌, true, List, [], ◌∷◌, ◌++◌, length, get_or, take, drop, Result, sym, refl, ap, ◌∙◌, subst}
+use Rattle.std.proofs.Common.{◌≡◌, ℕ, ◌+◌, ◌-◌, ◌<◌, true, List, [], ◌∷◌, ◌++◌, length, get_or, take, drop, Ok, Err, Result, sym, refl, ap, ◌∙◌, subst}
 use Rattle.std.proofs.lemmas.List.{drop_more, take_rest}
 use Rattle.reader.specs.Cuts.{lines}
 use Rattle.reader.specs.Readings.{reading}
@@ -7,8 +7,8 @@ use Rattle.reader.specs.Saying.{said}
 use Rattle.reader.specs.Steps.{Stepped}
 use Rattle.reader.specs.declared.fault.ReadFault.{ReadFault}
 use Rattle.reader.specs.declared.record.Record.{Record}
-use Rattle.tally.specs.declared.call.Answer.{Answer}
-use Rattle.tally.specs.declared.call.Answer.TheVariants.{Refused, Numbered, Accepted, Designated, Paid}
+use Rattle.tally.specs.Answers.{Answer}
+use Rattle.tally.specs.declared.call.Reply.TheVariants.{Numbered, Accepted, Designated, Paid}
 use Rattle.desk.specs.declared.telling.Teller.{Teller}
 use Rattle.desk.specs.Tellers.{stage}
 use Rattle.desk.specs.Told.{Telling, after_answer, after_line, after_next, answer_text, line_text, next_text, telling}
@@ -18,18 +18,18 @@ abbrev pub with_rest : Telling → List Answer → Telling
 with_rest s rest = record { records = s.records; place = s.place; session = s.session; accounts = s.accounts; answers = rest; rows = s.rows }
 
 same_text : (s : Telling) (rest : List Answer) (a : Answer) → answer_text (with_rest s rest) a ≡ answer_text s a
-same_text s rest (Refused refusal) = refl
-same_text s rest (Numbered number) = refl
-same_text s rest Accepted = refl
-same_text s rest (Designated designation) = refl
-same_text s rest (Paid sums) = refl
+same_text s rest (Err refusal) = refl
+same_text s rest (Ok (Numbered number)) = refl
+same_text s rest (Ok Accepted) = refl
+same_text s rest (Ok (Designated designation)) = refl
+same_text s rest (Ok (Paid sums)) = refl
 
 same_after : (s : Telling) (rest : List Answer) (width : ℕ) (a : Answer) (more : List Answer) → after_answer (with_rest s rest) width a more ≡ after_answer s width a more
-same_after s rest width (Refused refusal) more = refl
-same_after s rest width (Numbered number) more = refl
-same_after s rest width Accepted more = refl
-same_after s rest width (Designated designation) more = refl
-same_after s rest width (Paid sums) more = refl
+same_after s rest width (Err refusal) more = refl
+same_after s rest width (Ok (Numbered number)) more = refl
+same_after s rest width (Ok Accepted) more = refl
+same_after s rest width (Ok (Designated designation)) more = refl
+same_after s rest width (Ok (Paid sums)) more = refl
 
 -- the first of some answers, and the others
 cut_first : (xs : List Answer) (d : Answer) → 0 < length xs → xs ≡ get_or xs 0 d ∷ take (length xs - 1) (drop 1 xs)

@@ -25,9 +25,9 @@ terms_for o = record {
   currency = (row o.ticker).currency;
   tick = (row o.ticker).tick;
   delivers = is_delivery (row o.ticker).ending;
-  last = o.last;
-  opens = o.opens;
-  closes = o.closes;
+  last = o.sessions.last;
+  opens = o.sessions.opens;
+  closes = o.sessions.closes;
 }
 
 -- a book is opened where it can be built
@@ -36,7 +36,7 @@ opened_if o = cond (is_buildable (terms_for o)) (Ok (Some o)) (Err (Book Unbuild
 
 -- before a book is open only an opening does anything
 abbrev pub opening_of : Entry ℕ → Result (Option Opening) Fault
-opening_of (opening ticker month year sessions opens closes) = opened_if (record { ticker = ticker; last = sessions; opens = opens; closes = closes })
+opening_of (opening ticker month year sessions opens closes) = opened_if (record { ticker = ticker; sessions = record { last = sessions; opens = opens; closes = closes } })
 opening_of (registration identity who) = Ok None
 opening_of (trade buyer seller price contracts) = Ok None
 opening_of (quotation price quantity) = Ok None

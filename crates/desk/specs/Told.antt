@@ -1,8 +1,8 @@
 -- The text of a run: what was answered to each record of an open book.
 use Rattle.std.specs.Prelude.{ℕ, ◌+◌, true, List, [], ◌∷◌, ◌++◌, length, take, drop, Ok, Err}
 use Rattle.reader.specs.Readings.{reading}
-use Rattle.tally.specs.declared.call.Answer.{Answer}
-use Rattle.tally.specs.declared.call.Answer.TheVariants.{Refused, Numbered, Accepted, Designated, Paid}
+use Rattle.tally.specs.Answers.{Answer}
+use Rattle.tally.specs.declared.call.Reply.TheVariants.{Numbered, Accepted, Designated, Paid}
 use Rattle.tally.specs.declared.rows.PageRow.{PageRow}
 use Rattle.desk.specs.declared.faults.Fault.TheVariants.{Read, Book}
 use Rattle.desk.specs.Calls.{Line}
@@ -23,11 +23,11 @@ starting records place answers rows = record { records = records; place = place;
 
 -- the text of an answer to the next record: a page has a row for each account
 abbrev pub answer_text : Telling → Answer → List ℕ
-answer_text s (Refused refusal) = refusal_line (s.records + 1) s.place (Book refusal)
-answer_text s (Numbered number) = []
-answer_text s Accepted = []
-answer_text s (Designated designation) = designation_line designation
-answer_text s (Paid sums) = page_text s.session (take s.accounts s.rows) sums
+answer_text s (Err refusal) = refusal_line (s.records + 1) s.place (Book refusal)
+answer_text s (Ok (Numbered number)) = []
+answer_text s (Ok Accepted) = []
+answer_text s (Ok (Designated designation)) = designation_line designation
+answer_text s (Ok (Paid sums)) = page_text s.session (take s.accounts s.rows) sums
 
 -- the text of the next record: its fault, or its answer
 abbrev pub next_text : Telling → List Answer → List ℕ
@@ -44,11 +44,11 @@ moved s width session accounts answers rows = record { records = s.records + 1; 
 
 -- an account more, a session closed
 abbrev pub after_answer : Telling → ℕ → Answer → List Answer → Telling
-after_answer s width (Refused refusal) more = moved s width s.session s.accounts more s.rows
-after_answer s width (Numbered number) more = moved s width s.session (s.accounts + 1) more s.rows
-after_answer s width Accepted more = moved s width s.session s.accounts more s.rows
-after_answer s width (Designated designation) more = moved s width s.session s.accounts more s.rows
-after_answer s width (Paid sums) more = moved s width (s.session + 1) s.accounts more (drop s.accounts s.rows)
+after_answer s width (Err refusal) more = moved s width s.session s.accounts more s.rows
+after_answer s width (Ok (Numbered number)) more = moved s width s.session (s.accounts + 1) more s.rows
+after_answer s width (Ok Accepted) more = moved s width s.session s.accounts more s.rows
+after_answer s width (Ok (Designated designation)) more = moved s width s.session s.accounts more s.rows
+after_answer s width (Ok (Paid sums)) more = moved s width (s.session + 1) s.accounts more (drop s.accounts s.rows)
 
 abbrev pub after_next : Telling → ℕ → List Answer → Telling
 after_next s width [] = moved s width s.session s.accounts [] s.rows

@@ -13,14 +13,13 @@ use ledger::state::opening::is_buildable;
 use reader::fault::ReadFault;
 use reader::record::{Content, Record};
 use tally::refusal::Refusal;
+use tally::sessions::Sessions;
 
-// A book to be built: its contract, its last session, and its notice window.
+// A book to be built: its contract and its sessions.
 #[derive(Clone, Copy)]
 pub struct Opening {
     pub ticker: Ticker,
-    pub last: u64,
-    pub opens: u64,
-    pub closes: u64,
+    pub sessions: Sessions,
 }
 
 // Whether a contract that ends so delivers.
@@ -43,9 +42,9 @@ fn book_terms(opening: Opening) -> BookTerms
         currency: terms.currency(),
         tick: terms.tick(),
         delivers: delivers(opening.ticker.ending()),
-        last: opening.last,
-        opens: opening.opens,
-        closes: opening.closes,
+        last: opening.sessions.last,
+        opens: opening.sessions.opens,
+        closes: opening.sessions.closes,
     }
 }
 
@@ -64,9 +63,11 @@ pub fn opened_by(came: Result<Record, ReadFault>) -> Result<Option<Opening>, Fau
         } => {
             let opening = Opening {
                 ticker,
-                last: u64::from(sessions.value()),
-                opens: u64::from(opens.value()),
-                closes: u64::from(closes.value()),
+                sessions: Sessions {
+                    last: u64::from(sessions.value()),
+                    opens: u64::from(opens.value()),
+                    closes: u64::from(closes.value()),
+                },
             };
             if !is_buildable(&book_terms(opening)) {
                 return Err(Fault::Book(Refusal::Unbuildable));

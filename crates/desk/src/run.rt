@@ -92,20 +92,12 @@ fn serve<K: Contract + Drop>(
     requires within { at ≤ length out.old }
     requires places { (length (lines (drop reader.at reader.input.now)) ≤ length calls.old) × (length (lines (drop reader.at reader.input.now)) ≤ length log.old) }
     requires rows { 16704 ≤ length pages.old }
-    requires kind { terms_on K.Contract.means kind opening.last opening.opens opening.closes ≡ terms_for opening }
+    requires kind { terms_on K.Contract.means kind opening.sessions ≡ terms_for opening }
     requires built { is_buildable (terms_for opening) ≡ true }
     ensures { Puts out.old at (log_text reader.entry.number reader.entry.at (log_by (course K.Contract.means) kind opening reader.entry.at (lines (drop reader.entry.at reader.entry.input.now))) (lines (drop reader.entry.at reader.entry.input.now))) out.new result }
 {
     let count = gather(reader, calls);
-    let Ok(finished) = Book::run(
-        kind,
-        opening.last,
-        opening.opens,
-        opening.closes,
-        &calls[0..count],
-        log,
-        pages,
-    ) else {
+    let Ok(finished) = Book::run(kind, opening.sessions, &calls[0..count], log, pages) else {
         return None;
     };
     let served = finished.sending.calls;

@@ -11,7 +11,7 @@ use crate::printed::{put_designation, put_page, put_refusal};
 use reader::fault::ReadFault;
 use reader::reading::Reader;
 use reader::record::Record;
-use tally::call::Answer;
+use tally::call::{Answer, Reply};
 use tally::rows::PageRow;
 
 // How far the text has come: the sessions closed, the accounts registered, and the answers and page rows still to be told.
@@ -54,16 +54,14 @@ impl Teller<'_> {
         ensures counted { (self.new.accounts ≤ records + 1) × (self.new.closed ≤ records + 1) }
     {
         match answer {
-            Answer::Refused(refusal) => {
-                put_refusal(out, at, records + 1, start, Fault::Book(refusal))
-            }
-            Answer::Numbered(_) => {
+            Err(refusal) => put_refusal(out, at, records + 1, start, Fault::Book(refusal)),
+            Ok(Reply::Numbered(_)) => {
                 self.accounts += 1;
                 Some(at)
             }
-            Answer::Accepted => Some(at),
-            Answer::Designated(designation) => put_designation(out, at, designation),
-            Answer::Paid(sums) => {
+            Ok(Reply::Accepted) => Some(at),
+            Ok(Reply::Designated(designation)) => put_designation(out, at, designation),
+            Ok(Reply::Paid(sums)) => {
                 let session = self.closed + 1;
                 let page = top(self.rows, self.accounts);
                 self.rows = below(self.rows, self.accounts);

@@ -6,7 +6,7 @@ ghost use Rattle.desk.specs.declared.whole.Shortage.TheVariants.{Memory};
 use crate::run::{PAGE_ROWS, settle};
 use reader::whole::count_records;
 use std::alloc::{AllocError, Global};
-use tally::call::{Answer, Call};
+use tally::call::{Answer, Call, Reply};
 use tally::rows::PageRow;
 
 // A refusal's line is "R ", a number of at most 20 digits, a layer of 1, a number of 2, a place of at most 20, three spaces and a newline; a designation's is shorter.
@@ -76,7 +76,7 @@ pub fn report(heap: Global, input: &[u8]) -> Result<Vec<u8>, Shortage>
     };
     let text = vec![in heap; 0u8; room]?;
     let mut calls = vec![in heap; Call::Designate; records]?;
-    let mut log = vec![in heap; Answer::Accepted; records]?;
+    let mut log = vec![in heap; Ok(Reply::Accepted); records]?;
     let row = PageRow {
         day_trade: 0,
         margin: 0,

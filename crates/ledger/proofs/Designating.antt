@@ -1,12 +1,12 @@
 -- A designation that is due: there is a lot for it, and what its rows make of the view.
-use Rattle.std.proofs.Common.{◌≡◌, ℕ, ◌-◌, ◌≤◌, true, List, [], ◌∷◌, ◌++◌, length, get_or, take, set, ℤ, is_some, Some, None, Option, sym, refl, ap, ◌∙◌, subst, arith}
+use Rattle.std.proofs.Common.{◌≡◌, ℕ, ◌-◌, ◌≤◌, true, List, [], ◌∷◌, ◌++◌, length, get_or, take, set, ℤ, is_some, Some, None, Ok, Option, sym, refl, ap, ◌∙◌, subst, arith}
 use mathlib.Core.Logic.{∥∥₁_elim}
 use native.Mathlib.Bridge.{le_prop}
 use borrow.Author.Differences.{ints}
 use Rattle.std.specs.List.{AllByRecursion}
 use Rattle.std.proofs.lemmas.Bool.{false≢true, ltb-true}
 use Rattle.aged.specs.Line.{first, take_oldest}
-use Rattle.tally.specs.declared.call.Answer.TheVariants.{Designated}
+use Rattle.tally.specs.declared.call.Reply.TheVariants.{Designated}
 use Rattle.tally.specs.declared.rows.Account.{Account}
 use Rattle.tally.specs.declared.rows.Lot.{Lot}
 use Rattle.tally.specs.declared.rows.Notice.{Notice}
@@ -108,13 +108,13 @@ oldest_view v n lot (x ∷ ns) [] en el = absurd (no_first el)
 oldest_view v n lot (x ∷ ns) (y ∷ ls) en el = ap (λ z. designate v z y) (the_first en) ∙ ap (designate v n) (the_first el)
 
 pub oldest_answer : (v : View) (n : Notice) (lot : Lot) (m : ℕ) (ns : List Notice) (ls : List Lot) → first ns ≡ Some n → first ls ≡ Some lot → m ≡ paired n lot →
-    Designated (record { buyer = lot.owner; seller = n.seller; contracts = m; price = v.price }) ≡ designation_of v ns ls
+    Ok (Designated (record { buyer = lot.owner; seller = n.seller; contracts = m; price = v.price })) ≡ designation_of v ns ls
 oldest_answer v n lot m [] ls en el em = absurd (no_first en)
 oldest_answer v n lot m (x ∷ ns) [] en el em = absurd (no_first el)
 oldest_answer v n lot m (x ∷ ns) (y ∷ ls) en el em =
-    ap (λ k. Designated (record { buyer = lot.owner; seller = n.seller; contracts = k; price = v.price })) em
-    ∙ ap (λ z. Designated (record { buyer = lot.owner; seller = z.seller; contracts = paired z lot; price = v.price })) (sym (the_first en))
-    ∙ ap (λ z. Designated (record { buyer = z.owner; seller = x.seller; contracts = paired x z; price = v.price })) (sym (the_first el))
+    ap (λ k. Ok (Designated (record { buyer = lot.owner; seller = n.seller; contracts = k; price = v.price }))) em
+    ∙ ap (λ z. Ok (Designated (record { buyer = lot.owner; seller = z.seller; contracts = paired z lot; price = v.price }))) (sym (the_first en))
+    ∙ ap (λ z. Ok (Designated (record { buyer = z.owner; seller = x.seller; contracts = paired x z; price = v.price }))) (sym (the_first el))
 
 -- the accounts after the designation and both lines with the contracts taken off are the view that the rules give
 pub paired_off : (l : Ledger) (n : Notice) (lot : Lot) (m : ℕ) (accounts : List Account) (lots : List Lot) (notices : List Notice) → first (view l).notices ≡ Some n → first (view l).lots ≡ Some lot → m ≡ paired n lot →

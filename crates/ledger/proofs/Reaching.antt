@@ -1,8 +1,7 @@
 -- A run goes on: a view that some run leads to leads, by an accepted call, to the next.
-use Rattle.std.proofs.Common.{◌≡◌, ℕ, List, [], ◌∷◌, ◌++◌, Some, None, Ok, fold, Option, Result, sym, refl, ap, ◌∙◌, arith}
+use Rattle.std.proofs.Common.{◌≡◌, ℕ, List, [], ◌∷◌, ◌++◌, Some, None, Ok, Err, fold, Option, Result, sym, refl, ap, ◌∙◌, arith}
 use Rattle.std.proofs.ByRecursion.{All-append}
-use Rattle.tally.specs.declared.call.Answer.{Answer}
-use Rattle.tally.specs.declared.call.Answer.TheVariants.{Refused}
+use Rattle.tally.specs.Answers.{Answer}
 use Rattle.tally.specs.declared.refusal.Refusal.{Refusal}
 use Rattle.tally.specs.declared.rows.PageRow.{PageRow}
 use Rattle.tally.specs.Book.{Terms, View}
@@ -23,7 +22,7 @@ accepted c v e none = ap (λ x. elim x as (λ _. View) [ None ↦ done c v e | S
 
 -- what an accepted call answers, and the rows that it writes
 pub replied : (c : Terms) (v : View) (e : Event) → verdict c v e ≡ None → reply c v e ≡ answer c v e
-replied c v e none = ap (λ x. elim x as (λ _. Answer) [ None ↦ answer c v e | Some r ↦ Refused r ]) none
+replied c v e none = ap (λ x. elim x as (λ _. Answer) [ None ↦ answer c v e | Some r ↦ Err r ]) none
 
 pub wrote : (c : Terms) (v : View) (e : Event) → verdict c v e ≡ None → written c v e ≡ rows_of (page_of c v e)
 wrote c v e none = ap (λ x. elim x as (λ _. List PageRow) [ None ↦ rows_of (page_of c v e) | Some _ ↦ [] ]) none

@@ -9,8 +9,9 @@ pub enum Currency {
     Dollar,
 }
 
-#[derive(Clone, Copy, Debug, PartialEq, Eq)]
+#[derive(Clone, Copy, Debug, Default, PartialEq, Eq)]
 pub enum Residency {
+    #[default]
     Resident,
     Nonresident,
 }

@@ -1,20 +1,38 @@
 // A book over any of the three kinds.
-use contract_book::state::Book;
-use kinds::contract::Contract;
+use contract_book::state::{Book, Unbuilt};
 use kinds::delivering::Delivering;
 use kinds::indexes::LastFive;
 use kinds::terms::Terms;
 use kinds::weighted::WeightedAverage;
 use money::currency::Currency;
+use std::str::FromStr;
 use tally::call::{Answer, Call};
 use tally::refusal::Refusal;
 use tally::rows::PageRow;
+use tally::sessions::Sessions;
 
 #[derive(Clone, Copy)]
 pub enum KindName {
     Delivering,
     Average,
     Five,
+}
+
+// A word that names no kind.
+#[derive(Clone, Copy)]
+pub struct UnknownKind;
+
+impl FromStr for KindName {
+    type Err = UnknownKind;
+
+    fn from_str(word: &str) -> Result<KindName, UnknownKind> {
+        match word {
+            "delivering" => Ok(KindName::Delivering),
+            "average" => Ok(KindName::Average),
+            "five" => Ok(KindName::Five),
+            _ => Err(UnknownKind),
+        }
+    }
 }
 
 // What a book is asked to be built on.
@@ -24,23 +42,7 @@ pub struct Building {
     pub size: u64,
     pub currency: Currency,
     pub tick: u64,
-    pub last: u64,
-    pub opens: u64,
-    pub closes: u64,
-}
-
-// Why there is no book: its numbers make no terms, or it was refused.
-#[derive(Clone, Copy)]
-pub enum Unmade {
-    Terms,
-    Refused(Refusal),
-}
-
-#[derive(Drop)]
-pub enum AnyBook {
-    Delivering(Book<Delivering>),
-    Average(Book<WeightedAverage>),
-    Five(Book<LastFive>),
+    pub sessions: Sessions,
 }
 
 impl Building {
@@ -50,90 +52,50 @@ impl Building {
         let tick = u32::try_from(self.tick).ok()?;
         Terms::new(size, self.currency, tick)
     }
+}
 
-    // A book over the kind, with the sessions and the window asked for.
-    fn over<K: Contract + Drop>(self, kind: K) -> Result<Book<K>, Unmade> {
-        match Book::build(kind, self.last, self.opens, self.closes) {
-            Ok(book) => Ok(book),
-            Err(unbuilt) => Err(Unmade::Refused(unbuilt.refusal)),
-        }
+// Why there is no book: its numbers make no terms, or it was refused.
+#[derive(Clone, Copy)]
+pub enum Unmade {
+    Terms,
+    Refused(Refusal),
+}
+
+impl<K: Drop> From<Unbuilt<K>> for Unmade {
+    fn from(unbuilt: Unbuilt<K>) -> Unmade {
+        Unmade::Refused(unbuilt.refusal)
     }
 }
 
-pub fn build(building: Building) -> Result<AnyBook, Unmade> {
-    let Some(terms) = building.terms() else {
-        return Err(Unmade::Terms);
-    };
-    match building.kind {
-        KindName::Delivering => {
-            let book = building.over(Delivering::new(terms))?;
-            Ok(AnyBook::Delivering(book))
-        }
-        KindName::Average => {
-            let book = building.over(WeightedAverage::new(terms))?;
-            Ok(AnyBook::Average(book))
-        }
-        KindName::Five => {
-            let book = building.over(LastFive::new(terms))?;
-            Ok(AnyBook::Five(book))
-        }
-    }
-}
-
-// Makes the call of a book that the script names.
-fn make_call<K: Contract>(
-    book: &mut Book<K>,
-    call: Call,
-    page: &mut [PageRow],
-) -> Result<Answer, Refusal> {
-    match call {
-        Call::Register(registration) => {
-            let number = book.register(registration)?;
-            Ok(Answer::Numbered(number))
-        }
-        Call::Trade(trade) => {
-            book.trade(trade)?;
-            Ok(Answer::Accepted)
-        }
-        Call::Quote(quotation) => {
-            book.quote(quotation)?;
-            Ok(Answer::Accepted)
-        }
-        Call::Notify(notification) => {
-            book.notify(notification)?;
-            Ok(Answer::Accepted)
-        }
-        Call::Designate => {
-            let designation = book.designate()?;
-            Ok(Answer::Designated(designation))
-        }
-        Call::Mark(marking) => {
-            let sums = book.mark(marking, page)?;
-            Ok(Answer::Paid(sums))
-        }
-        Call::Expire => {
-            let sums = book.expire(page)?;
-            Ok(Answer::Paid(sums))
-        }
-    }
+// An enum and no `dyn`: what is built here is handed out, which a `dyn` cannot be.
+#[derive(Drop)]
+pub enum AnyBook {
+    Delivering(Book<Delivering>),
+    Average(Book<WeightedAverage>),
+    Five(Book<LastFive>),
 }
 
 impl AnyBook {
-    // Makes a call of the book, whichever kind it is over, and answers the book after it too.
-    pub fn serve(self, call: Call, page: &mut [PageRow]) -> (AnyBook, Result<Answer, Refusal>) {
+    pub fn build(building: Building) -> Result<AnyBook, Unmade> {
+        let terms = building.terms().ok_or(Unmade::Terms)?;
+        let sessions = building.sessions;
+        Ok(match building.kind {
+            KindName::Delivering => {
+                AnyBook::Delivering(Book::build(Delivering::new(terms), sessions)?)
+            }
+            KindName::Average => {
+                AnyBook::Average(Book::build(WeightedAverage::new(terms), sessions)?)
+            }
+            KindName::Five => AnyBook::Five(Book::build(LastFive::new(terms), sessions)?),
+        })
+    }
+
+    // Makes a call of the book, whichever kind it is over.
+    pub fn apply(&mut self, call: Call, page: &mut [PageRow]) -> Answer {
         match self {
-            AnyBook::Delivering(mut book) => {
-                let reply = make_call(&mut book, call, page);
-                (AnyBook::Delivering(book), reply)
-            }
-            AnyBook::Average(mut book) => {
-                let reply = make_call(&mut book, call, page);
-                (AnyBook::Average(book), reply)
-            }
-            AnyBook::Five(mut book) => {
-                let reply = make_call(&mut book, call, page);
-                (AnyBook::Five(book), reply)
-            }
+            AnyBook::Delivering(book) => book.apply(call, page),
+            AnyBook::Average(book) => book.apply(call, page),
+            AnyBook::Five(book) => book.apply(call, page),
         }
     }
 }

@@ -1,13 +1,13 @@
 // Drives a book call by call from a script on standard input, and prints what each call answers.
 #![tactic(auto)]
 
-use books::{AnyBook, Building, build};
+use books::{AnyBook, Building};
 use script::{Line, Request, read};
 use std::alloc::Global;
 use std::fmt::Write;
 use std::io;
 use tally::rows::PageRow;
-use telling::{tell_page, tell_reply, tell_unmade};
+use telling::{Page, Told};
 
 mod books;
 mod script;
@@ -21,73 +21,49 @@ const UNTOUCHED: PageRow = PageRow {
 };
 
 // Builds a book in the place of the one before; refused, that one stays.
-fn replace(
-    book: Option<AnyBook>,
-    building: Building,
-    out: &mut String,
-) -> anyhow::Result<Option<AnyBook>> {
-    match build(building) {
+fn replace(book: &mut Option<AnyBook>, building: Building, out: &mut String) -> anyhow::Result<()> {
+    match AnyBook::build(building) {
         Ok(new) => {
+            *book = Some(new);
             writeln!(out, "ok")?;
-            Ok(Some(new))
         }
-        Err(unmade) => {
-            tell_unmade(unmade, out)?;
-            Ok(book)
-        }
+        Err(unmade) => writeln!(out, "{unmade}")?,
     }
+    Ok(())
 }
 
 // Makes a call of the book, and shows its page where it has one.
 fn send(
     heap: Global,
-    book: AnyBook,
+    book: &mut AnyBook,
     request: Request,
     out: &mut String,
-) -> anyhow::Result<AnyBook> {
-    let mut page = vec![in heap; UNTOUCHED; request.rows]?;
-    let (after, reply) = book.serve(request.call, &mut page);
-    tell_reply(reply, out)?;
-    if request.has_page() {
-        tell_page(&page, out)?;
+) -> anyhow::Result<()> {
+    let mut page = vec![in heap; UNTOUCHED; request.page.unwrap_or(0)]?;
+    let answer = book.apply(request.call, &mut page);
+    writeln!(out, "{}", Told(answer))?;
+    if request.page.is_some() {
+        writeln!(out, "{}", Page(&page))?;
     }
-    Ok(after)
+    Ok(())
 }
 
-// Makes a call where there is a book.
-fn try_send(
-    heap: Global,
-    book: Option<AnyBook>,
-    request: Request,
-    out: &mut String,
-) -> anyhow::Result<Option<AnyBook>> {
-    match book {
-        None => {
-            writeln!(out, "no book")?;
-            Ok(None)
-        }
-        Some(book) => {
-            let after = send(heap, book, request, out)?;
-            Ok(Some(after))
-        }
-    }
-}
-
-// Carries out one line of the script, and answers the book after it.
+// Carries out one line of the script.
 fn carry_out(
     heap: Global,
-    book: Option<AnyBook>,
+    book: &mut Option<AnyBook>,
     line: &str,
     out: &mut String,
-) -> anyhow::Result<Option<AnyBook>> {
+) -> anyhow::Result<()> {
     match read(line) {
-        None => {
-            writeln!(out, "?")?;
-            Ok(book)
-        }
-        Some(Line::Build(building)) => replace(book, building, out),
-        Some(Line::Send(request)) => try_send(heap, book, request, out),
+        None => writeln!(out, "?")?,
+        Some(Line::Build(building)) => replace(book, building, out)?,
+        Some(Line::Send(request)) => match book.as_mut() {
+            None => writeln!(out, "no book")?,
+            Some(book) => send(heap, book, request, out)?,
+        },
     }
+    Ok(())
 }
 
 // Reads the whole script, carries it out line by line, and prints once.
@@ -97,7 +73,7 @@ fn probe(rt: &HostRuntime) -> anyhow::Result<()> {
     let mut out = String::new(heap);
     let mut book = None;
     for line in script.as_str().lines() {
-        book = carry_out(heap, book, line, &mut out)?;
+        carry_out(heap, &mut book, line, &mut out)?;
     }
     rt.print(out)?;
     Ok(())

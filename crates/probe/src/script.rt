@@ -1,44 +1,26 @@
 // A line of the script: the building of a book, or a call.
-use crate::books::{Building, KindName};
+use crate::books::Building;
 use crate::words::Words;
 use kinds::quotation::Quotation;
 use money::currency::{Currency, Residency};
 use tally::call::{Call, Marking, Notification, Registration};
 use tally::rows::{Identity, Trade};
+use tally::sessions::Sessions;
 
 // The most rows that a page is handed in with.
-const MOST_ROWS: u64 = 80;
+const MOST_ROWS: usize = 80;
 
-// A call, and how many rows of a page it is handed.
+// A call, and how many rows its page has where it pays into one.
 #[derive(Clone, Copy)]
 pub struct Request {
     pub call: Call,
-    pub rows: usize,
-}
-
-impl Request {
-    // Whether the call pays into a page.
-    pub fn has_page(self) -> bool {
-        match self.call {
-            Call::Mark(_) | Call::Expire => true,
-            _ => false,
-        }
-    }
+    pub page: Option<usize>,
 }
 
 #[derive(Clone, Copy)]
 pub enum Line {
     Build(Building),
     Send(Request),
-}
-
-fn kind_name(words: &mut Words) -> Option<KindName> {
-    match words.word()? {
-        "delivering" => Some(KindName::Delivering),
-        "average" => Some(KindName::Average),
-        "five" => Some(KindName::Five),
-        _ => None,
-    }
 }
 
 fn currency(words: &mut Words) -> Option<Currency> {
@@ -59,66 +41,61 @@ fn residency(words: &mut Words) -> Option<Residency> {
 
 fn building(words: &mut Words) -> Option<Building> {
     Some(Building {
-        kind: kind_name(words)?,
-        size: words.number()?,
+        kind: words.value()?,
+        size: words.value()?,
         currency: currency(words)?,
-        tick: words.number()?,
-        last: words.number()?,
-        opens: words.number()?,
-        closes: words.number()?,
+        tick: words.value()?,
+        sessions: Sessions {
+            last: words.value()?,
+            opens: words.value()?,
+            closes: words.value()?,
+        },
     })
 }
 
 fn registration(words: &mut Words) -> Option<Registration> {
-    let identity = Identity {
-        customer: words.eight()?,
-        house: words.three()?,
-        member: words.three()?,
-    };
-    let residency = residency(words)?;
     Some(Registration {
-        identity,
-        residency,
+        identity: Identity {
+            customer: words.bytes()?,
+            house: words.bytes()?,
+            member: words.bytes()?,
+        },
+        residency: residency(words)?,
     })
 }
 
 fn trade(words: &mut Words) -> Option<Trade> {
     Some(Trade {
-        buyer: words.number()? as usize,
-        seller: words.number()? as usize,
-        price: words.number()?,
-        contracts: words.number()?,
+        buyer: words.value()?,
+        seller: words.value()?,
+        price: words.value()?,
+        contracts: words.value()?,
     })
 }
 
 fn quotation(words: &mut Words) -> Option<Quotation> {
     Some(Quotation {
-        price: words.number()?,
-        quantity: words.number()?,
+        price: words.value()?,
+        quantity: words.value()?,
     })
 }
 
 fn notification(words: &mut Words) -> Option<Notification> {
     Some(Notification {
-        seller: words.number()? as usize,
-        contracts: words.number()?,
+        seller: words.value()?,
+        contracts: words.value()?,
     })
 }
 
 fn marking(words: &mut Words) -> Option<Marking> {
     Some(Marking {
-        price: words.number()?,
-        rate: words.number()?,
+        price: words.value()?,
+        rate: words.value()?,
     })
 }
 
 fn rows(words: &mut Words) -> Option<usize> {
-    let rows = words.number()?;
-    if rows <= MOST_ROWS {
-        Some(rows as usize)
-    } else {
-        None
-    }
+    words.value().filter(|&rows| rows <= MOST_ROWS)
 }
 
 // The call of a name, from the words behind it.
@@ -133,14 +110,11 @@ fn named_call(name: &str, words: &mut Words) -> Option<Request> {
         "expire" => Call::Expire,
         _ => return None,
     };
-    let request = Request { call, rows: 0 };
-    if request.has_page() {
-        return Some(Request {
-            call,
-            rows: rows(words)?,
-        });
-    }
-    Some(request)
+    let page = match call {
+        Call::Mark(_) | Call::Expire => Some(rows(words)?),
+        _ => None,
+    };
+    Some(Request { call, page })
 }
 
 // The line that some words make, or nothing where they make none.
@@ -150,5 +124,5 @@ pub fn read(line: &str) -> Option<Line> {
         "build" => Line::Build(building(&mut words)?),
         name => Line::Send(named_call(name, &mut words)?),
     };
-    if words.is_done() { Some(line) } else { None }
+    words.is_done().then_some(line)
 }

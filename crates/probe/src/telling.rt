@@ -1,62 +1,52 @@
 // The lines that a call prints.
 use crate::books::Unmade;
-use std::alloc::AllocError;
-use std::fmt::Write;
-use tally::call::Answer;
-use tally::refusal::Refusal;
-use tally::rows::{Designation, PageRow, Sums};
+use std::fmt;
+use tally::call::{Answer, Reply};
+use tally::rows::PageRow;
 
-fn tell_designation(designation: Designation, out: &mut String) -> Result<(), AllocError> {
-    let Designation {
-        buyer,
-        seller,
-        contracts,
-        price,
-    } = designation;
-    writeln!(out, "ok {buyer} {seller} {contracts} {price}")
-}
-
-fn tell_sums(sums: Sums, out: &mut String) -> Result<(), AllocError> {
-    let Sums {
-        reais,
-        dollars,
-        remainder,
-        lines,
-    } = sums;
-    writeln!(out, "ok {reais} {dollars} {remainder} {lines}")
-}
-
-fn tell_refusal(refusal: Refusal, out: &mut String) -> Result<(), AllocError> {
-    let number = refusal.number();
-    writeln!(out, "no {number}")
-}
-
-// Why no book was built.
-pub fn tell_unmade(unmade: Unmade, out: &mut String) -> Result<(), AllocError> {
-    match unmade {
-        Unmade::Terms => writeln!(out, "terms"),
-        Unmade::Refused(refusal) => tell_refusal(refusal, out),
+impl fmt::Display for Unmade {
+    fn fmt<W: fmt::Write>(&self, f: &mut fmt::Formatter<W>) -> fmt::Result {
+        match self {
+            Unmade::Terms => f.write_str("terms"),
+            Unmade::Refused(refusal) => write!(f, "no {}", refusal.number()),
+        }
     }
 }
 
 // What a call was answered.
-pub fn tell_reply(reply: Result<Answer, Refusal>, out: &mut String) -> Result<(), AllocError> {
-    match reply {
-        Ok(Answer::Numbered(number)) => writeln!(out, "ok {number}"),
-        Ok(Answer::Accepted) => writeln!(out, "ok"),
-        Ok(Answer::Designated(designation)) => tell_designation(designation, out),
-        Ok(Answer::Paid(sums)) => tell_sums(sums, out),
-        Ok(Answer::Refused(refusal)) | Err(refusal) => tell_refusal(refusal, out),
+#[derive(Clone, Copy)]
+pub struct Told(pub Answer);
+
+impl fmt::Display for Told {
+    fn fmt<W: fmt::Write>(&self, f: &mut fmt::Formatter<W>) -> fmt::Result {
+        match self.0 {
+            Ok(Reply::Numbered(number)) => write!(f, "ok {number}"),
+            Ok(Reply::Accepted) => f.write_str("ok"),
+            Ok(Reply::Designated(given)) => write!(
+                f,
+                "ok {} {} {} {}",
+                given.buyer, given.seller, given.contracts, given.price,
+            ),
+            Ok(Reply::Paid(sums)) => write!(
+                f,
+                "ok {} {} {} {}",
+                sums.reais, sums.dollars, sums.remainder, sums.lines,
+            ),
+            Err(refusal) => write!(f, "no {}", refusal.number()),
+        }
     }
 }
 
 // All rows of a page, paid or not.
-pub fn tell_page(page: &[PageRow], out: &mut String) -> Result<(), AllocError> {
-    write!(out, "page")?;
-    for row in page {
-        let day_trade = row.day_trade;
-        let margin = row.margin;
-        write!(out, " {day_trade},{margin}")?;
+#[derive(Clone, Copy)]
+pub struct Page<'a>(pub &'a [PageRow]);
+
+impl fmt::Display for Page<'_> {
+    fn fmt<W: fmt::Write>(&self, f: &mut fmt::Formatter<W>) -> fmt::Result {
+        f.write_str("page")?;
+        for row in self.0 {
+            write!(f, " {},{}", row.day_trade, row.margin)?;
+        }
+        Ok(())
     }
-    writeln!(out)
 }

@@ -11,8 +11,8 @@ use Rattle.tally.specs.declared.rows.Trade.{Trade}
 use Rattle.tally.specs.declared.call.Registration.{Registration}
 use Rattle.tally.specs.declared.call.Notification.{Notification}
 use Rattle.tally.specs.declared.call.Marking.{Marking}
-use Rattle.tally.specs.declared.call.Answer.{Answer}
-use Rattle.tally.specs.declared.call.Answer.TheVariants.{Refused, Numbered, Accepted, Designated, Paid}
+use Rattle.tally.specs.Answers.{Answer}
+use Rattle.tally.specs.declared.call.Reply.TheVariants.{Numbered, Accepted, Designated, Paid}
 use Rattle.tally.specs.declared.refusal.Refusal.TheVariants.{NoneDue, NoticeDue}
 use Rattle.tally.specs.Book.{Terms, View}
 use Rattle.tally.specs.Events.{Event, registering, trading, quoting, noticing, designating, marking, expiring}
@@ -44,7 +44,7 @@ run =
     ∷ []
 
 abbrev paid : ℤ → ℤ → ℤ → ℕ → Answer
-paid reais dollars remainder lines = Paid (record { reais = reais; dollars = dollars; remainder = remainder; lines = lines })
+paid reais dollars remainder lines = Ok (Paid (record { reais = reais; dollars = dollars; remainder = remainder; lines = lines }))
 
 abbrev row : ℤ → ℤ → PageRow
 row day_trade margin = record { day_trade = day_trade; margin = margin }
@@ -52,10 +52,10 @@ row day_trade margin = record { day_trade = day_trade; margin = margin }
 -- what every call is answered, and the rows that it writes
 pub record WorkedRun : Type 0 where
   pub answers : map (λ x. x.answer) (log mini run) ≡
-      Numbered 1 ∷ Numbered 2
-      ∷ Accepted ∷ paid (pos 3231) (negsuc 1499) (pos 450000) 1
-      ∷ Accepted ∷ Accepted ∷ paid (pos 2000) (negsuc 999) (pos 0) 2
-      ∷ Accepted ∷ Accepted
+      Ok (Numbered 1) ∷ Ok (Numbered 2)
+      ∷ Ok Accepted ∷ paid (pos 3231) (negsuc 1499) (pos 450000) 1
+      ∷ Ok Accepted ∷ Ok Accepted ∷ paid (pos 2000) (negsuc 999) (pos 0) 2
+      ∷ Ok Accepted ∷ Ok Accepted
       ∷ paid (pos 4500) (negsuc 2249) (pos 0) 1
       ∷ []
   pub pages : map (λ x. x.rows) (log mini run) ≡
@@ -81,14 +81,14 @@ delivery =
     ∷ []
 
 abbrev given : ℕ → ℕ → Answer
-given buyer contracts = Designated (record { buyer = buyer; seller = 3; contracts = contracts; price = 12020 })
+given buyer contracts = Ok (Designated (record { buyer = buyer; seller = 3; contracts = contracts; price = 12020 }))
 
 pub record WorkedDelivery : Type 0 where
   pub answers : map (λ x. x.answer) (log arabica delivery) ≡
-      Numbered 1 ∷ Numbered 2 ∷ Numbered 3
-      ∷ Accepted ∷ Accepted ∷ paid (pos 0) (pos 0) (pos 0) 0
-      ∷ Accepted ∷ Refused NoneDue ∷ paid (pos 0) (pos 0) (pos 0) 0
-      ∷ Refused NoticeDue ∷ given 1 5 ∷ given 2 1 ∷ Refused NoneDue ∷ paid (pos 0) (pos 0) (pos 0) 0
+      Ok (Numbered 1) ∷ Ok (Numbered 2) ∷ Ok (Numbered 3)
+      ∷ Ok Accepted ∷ Ok Accepted ∷ paid (pos 0) (pos 0) (pos 0) 0
+      ∷ Ok Accepted ∷ Err NoneDue ∷ paid (pos 0) (pos 0) (pos 0) 0
+      ∷ Err NoticeDue ∷ given 1 5 ∷ given 2 1 ∷ Err NoneDue ∷ paid (pos 0) (pos 0) (pos 0) 0
       ∷ []
 
 -- an account buys at two prices and sells at a third on one day: the earliest purchase offsets

@@ -1,6 +1,7 @@
 pub mod Rows
 pub mod Refusals
 pub mod Account
+pub mod Answers
 pub mod Book
 pub mod Pages
 pub mod Events

@@ -1,24 +1,16 @@
 -- What a log tells, in the words of the trade and without the steps of a book.
-use Rattle.std.specs.Prelude.{ℕ, ◌+◌, ◌*◌, Bool, true, false, cond, List, [], ◌∷◌, ◌++◌, map, replicate, ℤ, pos, ◌-ℤ◌, Some, None, filter, Option, ◌==◌, nat_lt}
+use Rattle.std.specs.Prelude.{ℕ, ◌+◌, ◌*◌, Bool, true, false, cond, List, [], ◌∷◌, ◌++◌, map, replicate, ℤ, pos, ◌-ℤ◌, Some, None, Ok, Err, filter, is_ok, Option, ◌==◌, nat_lt}
 use Rattle.tally.specs.declared.rows.Trade.{Trade}
 use Rattle.tally.specs.declared.rows.Notice.{Notice}
 use Rattle.tally.specs.declared.rows.Designation.{Designation}
-use Rattle.tally.specs.declared.call.Answer.{Answer}
-use Rattle.tally.specs.declared.call.Answer.TheVariants.{Refused, Numbered, Accepted, Designated, Paid}
+use Rattle.tally.specs.Answers.{Answer}
+use Rattle.tally.specs.declared.call.Reply.TheVariants.{Numbered, Accepted, Designated, Paid}
 use Rattle.tally.specs.declared.call.Marking.{Marking}
 use Rattle.tally.specs.Account.{long, short}
 use Rattle.tally.specs.Book.{Posting, buy, sell}
 use Rattle.tally.specs.Events.{Event, registering, trading, quoting, noticing, designating, marking, expiring}
 use Rattle.tally.specs.Runs.{Entry}
 use Rattle.tally.specs.Steps.{noticed_in}
-
--- a call was accepted: it was answered something else than a refusal
-abbrev pub is_accepted : Answer → Bool
-is_accepted (Refused r) = false
-is_accepted (Numbered k) = true
-is_accepted Accepted = true
-is_accepted (Designated d) = true
-is_accepted (Paid s) = true
 
 -- ---- call by call
 abbrev pub trade_in : Event → List Trade
@@ -58,18 +50,18 @@ final_in (marking m room) = None
 final_in (expiring final room) = final
 
 abbrev pub designation_in : Answer → List Designation
-designation_in (Refused r) = []
-designation_in (Numbered k) = []
-designation_in Accepted = []
-designation_in (Designated d) = d ∷ []
-designation_in (Paid s) = []
+designation_in (Err r) = []
+designation_in (Ok (Numbered k)) = []
+designation_in (Ok Accepted) = []
+designation_in (Ok (Designated d)) = d ∷ []
+designation_in (Ok (Paid s)) = []
 
 -- the marking that an entry made, if it did, and its final price likewise
 abbrev pub marked_by : Entry → Option Marking
-marked_by x = cond (is_accepted x.answer) (marking_in x.event) None
+marked_by x = cond (is_ok x.answer) (marking_in x.event) None
 
 abbrev pub ended_by : Entry → Option ℕ
-ended_by x = cond (is_accepted x.answer) (final_in x.event) None
+ended_by x = cond (is_ok x.answer) (final_in x.event) None
 
 abbrev pub is_marking : Entry → Bool
 is_marking x = elim (marked_by x) [ None ↦ false | Some _ ↦ true ]
@@ -88,7 +80,7 @@ closed (x ∷ xs) = cond (nat_lt 0 (markings (x ∷ xs))) (x ∷ closed xs) []
 -- the trades that were accepted
 unfoldable pub trades : List Entry → List Trade
 trades [] = []
-trades (x ∷ xs) = cond (is_accepted x.answer) (trade_in x.event) [] ++ trades xs
+trades (x ∷ xs) = cond (is_ok x.answer) (trade_in x.event) [] ++ trades xs
 
 -- the designations that were answered
 unfoldable pub designations : List Entry → List Designation
@@ -98,7 +90,7 @@ designations (x ∷ xs) = designation_in x.answer ++ designations xs
 -- the notices that were accepted, each with the session in which it was, the first being of session s
 unfoldable pub notices_from : ℕ → List Entry → List Notice
 notices_from s [] = []
-notices_from s (x ∷ xs) = cond (is_accepted x.answer) (notice_in s x.event) [] ++ notices_from (s + cond (is_marking x) 1 0) xs
+notices_from s (x ∷ xs) = cond (is_ok x.answer) (notice_in s x.event) [] ++ notices_from (s + cond (is_marking x) 1 0) xs
 
 abbrev pub noticed : List Entry → List Notice
 noticed xs = notices_from 1 xs

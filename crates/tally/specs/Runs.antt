@@ -1,10 +1,10 @@
 -- Runs: calls one after the other, each picking up where the one before ended.
-use Rattle.std.specs.Prelude.{◌+◌, false, List, [], ◌∷◌, length, Some, None, fold, Option}
+use Rattle.std.specs.Prelude.{◌+◌, false, List, [], ◌∷◌, length, Some, None, Ok, Err, fold, Option}
 use Rattle.tally.specs.declared.rows.Lot.{Lot}
 use Rattle.tally.specs.declared.rows.Notice.{Notice}
 use Rattle.tally.specs.declared.rows.PageRow.{PageRow}
-use Rattle.tally.specs.declared.call.Answer.{Answer}
-use Rattle.tally.specs.declared.call.Answer.TheVariants.{Refused, Numbered, Accepted, Designated, Paid}
+use Rattle.tally.specs.Answers.{Answer}
+use Rattle.tally.specs.declared.call.Reply.TheVariants.{Numbered, Accepted, Designated, Paid}
 use Rattle.tally.specs.Book.{Terms, View, Tally, seen}
 use Rattle.tally.specs.Events.{Event, registering, trading, quoting, noticing, designating, marking, expiring}
 use Rattle.tally.specs.Pages.{Page, page, roll, by_marking, by_expiry}
@@ -45,27 +45,27 @@ page_of c v (expiring None room) = None
 page_of c v (expiring (Some final) room) = Some (page c v.rate (by_expiry c v final) (roll v))
 
 abbrev pub designation_of : View → List Notice → List Lot → Answer
-designation_of v [] ls = Accepted
-designation_of v (n ∷ ns) [] = Accepted
-designation_of v (n ∷ ns) (l ∷ ls) = Designated (record { buyer = l.owner; seller = n.seller; contracts = paired n l; price = v.price })
+designation_of v [] ls = Ok Accepted
+designation_of v (n ∷ ns) [] = Ok Accepted
+designation_of v (n ∷ ns) (l ∷ ls) = Ok (Designated (record { buyer = l.owner; seller = n.seller; contracts = paired n l; price = v.price }))
 
 abbrev pub totals_of : Option Page → Answer
-totals_of None = Accepted
-totals_of (Some p) = Paid p.totals
+totals_of None = Ok Accepted
+totals_of (Some p) = Ok (Paid p.totals)
 
 -- what an accepted call answers
 abbrev pub answer : Terms → View → Event → Answer
-answer c v (registering r) = Numbered (length v.accounts + 1)
-answer c v (trading t) = Accepted
-answer c v (quoting q reply) = Accepted
-answer c v (noticing n) = Accepted
+answer c v (registering r) = Ok (Numbered (length v.accounts + 1))
+answer c v (trading t) = Ok Accepted
+answer c v (quoting q reply) = Ok Accepted
+answer c v (noticing n) = Ok Accepted
 answer c v designating = designation_of v v.notices v.lots
 answer c v (marking m room) = totals_of (page_of c v (marking m room))
 answer c v (expiring final room) = totals_of (page_of c v (expiring final room))
 
 -- what any call answers
 abbrev pub reply : Terms → View → Event → Answer
-reply c v e = elim (verdict c v e) [ None ↦ answer c v e | Some r ↦ Refused r ]
+reply c v e = elim (verdict c v e) [ None ↦ answer c v e | Some r ↦ Err r ]
 
 abbrev pub rows_of : Option Page → List PageRow
 rows_of None = []

@@ -4,28 +4,28 @@ use crate::rows::{Designation, Identity, Sums, Trade};
 use kinds::quotation::Quotation;
 use money::currency::Residency;
 
-#[derive(Clone, Copy)]
+#[derive(Clone, Copy, Debug, PartialEq, Eq)]
 pub struct Registration {
     pub identity: Identity,
     pub residency: Residency,
 }
 
 // A seller's notice of delivery.
-#[derive(Clone, Copy)]
+#[derive(Clone, Copy, Debug, PartialEq, Eq)]
 pub struct Notification {
     pub seller: usize,
     pub contracts: u64,
 }
 
 // The marking of the open session: its settlement price and its rate.
-#[derive(Clone, Copy)]
+#[derive(Clone, Copy, Debug, PartialEq, Eq)]
 pub struct Marking {
     pub price: u64,
     pub rate: u64,
 }
 
 // One call of a book.
-#[derive(Clone, Copy)]
+#[derive(Clone, Copy, Debug, PartialEq, Eq)]
 pub enum Call {
     Register(Registration),
     Trade(Trade),
@@ -36,10 +36,9 @@ pub enum Call {
     Expire,
 }
 
-// What a call is answered.
-#[derive(Clone, Copy)]
-pub enum Answer {
-    Refused(Refusal),
+// What an accepted call brings.
+#[derive(Clone, Copy, Debug, PartialEq, Eq)]
+pub enum Reply {
     // The number of a new account.
     Numbered(usize),
     Accepted,
@@ -47,3 +46,6 @@ pub enum Answer {
     // What the page comes to.
     Paid(Sums),
 }
+
+// What a call is answered.
+pub type Answer = Result<Reply, Refusal>;

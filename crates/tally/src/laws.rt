@@ -11,46 +11,34 @@ ghost use Rattle.tally.specs.Worked.{WorkedLines};
 use kinds::contract::Contract;
 
 // Every run is settled.
-pub fn settlement_stands() -> u8
+pub fn settlement_stands()
     ensures { SettlementLaw }
-{
-    0
-}
+{}
 
 // No number of a run is large.
-pub fn bounds_stand() -> u8
+pub fn bounds_stand()
     ensures { BoundsLaw }
-{
-    0
-}
+{}
 
 // Whatever is sent to a book over any kind, the run is settled and its numbers are bounded.
-pub fn any_kind_settles<K: Contract>() -> u8
+pub fn any_kind_settles<K: Contract>()
     ensures settled { (c : Terms) → Buildable c → (k : K) (rs : List Request) → Settled c (events K.Contract.means k rs) }
     ensures bounded { (c : Terms) → Buildable c → (k : K) (rs : List Request) → Bounded c (shown c (events K.Contract.means k rs)) }
-{
-    0
-}
+{}
 
 // The definitions compute: small runs worked through.
-pub fn examples_stand() -> u8
+pub fn examples_stand()
     ensures run { WorkedRun }
     ensures delivery { WorkedDelivery }
     ensures offset { WorkedOffset }
-{
-    0
-}
+{}
 
 // Nine worked lines, together: six payments, five indexes, a marking's price, and aged lots.
-pub fn worked_lines_stand() -> u8
+pub fn worked_lines_stand()
     ensures lines { WorkedLines }
-{
-    0
-}
+{}
 
 // The questions of every call are asked in their order.
-pub fn questions_stand() -> u8
+pub fn questions_stand()
     ensures { QuestionOrder }
-{
-    0
-}
+{}

@@ -5,3 +5,4 @@ pub mod call;
 pub mod laws;
 pub mod refusal;
 pub mod rows;
+pub mod sessions;

@@ -6,7 +6,7 @@ ghost use Rattle.tally.specs.declared.refusal.Refusal.TheVariants.{Unquoted};
 use kinds::quotation::KindFault;
 
 // The first question that was not met.
-#[derive(Clone, Copy)]
+#[derive(Clone, Copy, Debug, PartialEq, Eq)]
 pub enum Refusal {
     // The sessions or the notice window cannot be had.
     Unbuildable,
@@ -51,7 +51,7 @@ pub enum Refusal {
 }
 
 impl Refusal {
-    // The number that the refusal is shown by.
+    // The number that the refusal is shown by. A match, since no cast reads an enum of which a variant has a field.
     pub fn number(self) -> u8
         ensures value { result ≡ refusal_number self }
     {

@@ -6,7 +6,7 @@ use aged::{Owned, Row};
 use money::currency::Residency;
 
 // Whom an account belongs to: a customer, of a house, that clears through a member.
-#[derive(Clone, Copy)]
+#[derive(Clone, Copy, Debug, Default, PartialEq, Eq)]
 pub struct Identity {
     pub customer: [u8; 8],
     pub house: [u8; 3],
@@ -14,7 +14,7 @@ pub struct Identity {
 }
 
 // An account: its signed contracts at the last marking, what it bought and sold in the open session, and its total.
-#[derive(Clone, Copy)]
+#[derive(Clone, Copy, Debug, Default, PartialEq, Eq)]
 pub struct Account {
     pub identity: Identity,
     pub residency: Residency,
@@ -25,7 +25,7 @@ pub struct Account {
 }
 
 // A trade: a row of the day's sheet.
-#[derive(Clone, Copy)]
+#[derive(Clone, Copy, Debug, Default, PartialEq, Eq)]
 pub struct Trade {
     pub buyer: usize,
     pub seller: usize,
@@ -34,7 +34,7 @@ pub struct Trade {
 }
 
 // Long contracts of one account, aged from the session in which they were left.
-#[derive(Clone, Copy)]
+#[derive(Clone, Copy, Debug, Default, PartialEq, Eq)]
 pub struct Lot {
     pub owner: usize,
     pub session: u32,
@@ -42,7 +42,8 @@ pub struct Lot {
 }
 
 // Contracts that a seller has given notice of delivering, since a session.
-#[derive(Clone, Copy)]
+// No one type with `Lot`: its parameter would be a mere marker, and the account would lose its name in the trade.
+#[derive(Clone, Copy, Debug, Default, PartialEq, Eq)]
 pub struct Notice {
     pub seller: usize,
     pub session: u32,
@@ -50,14 +51,14 @@ pub struct Notice {
 }
 
 // An account's row on a page: its two lines, in the currency that it is paid in.
-#[derive(Clone, Copy)]
+#[derive(Clone, Copy, Debug, Default, PartialEq, Eq)]
 pub struct PageRow {
     pub day_trade: i64,
     pub margin: i64,
 }
 
 // What a page comes to: the sums paid, the remainder, and the lines converted.
-#[derive(Clone, Copy)]
+#[derive(Clone, Copy, Debug, Default, PartialEq, Eq)]
 pub struct Sums {
     pub reais: i64,
     pub dollars: i64,
@@ -66,7 +67,7 @@ pub struct Sums {
 }
 
 // Contracts of a notice that were given to a long lot, at the last settlement price.
-#[derive(Clone, Copy)]
+#[derive(Clone, Copy, Debug, Default, PartialEq, Eq)]
 pub struct Designation {
     pub buyer: usize,
     pub seller: usize,
@@ -82,11 +83,7 @@ impl Row for Lot {
     }
 
     fn with_count(self, n: u32) -> Lot {
-        Lot {
-            owner: self.owner,
-            session: self.session,
-            count: n,
-        }
+        Lot { count: n, ..self }
     }
 }
 
@@ -108,11 +105,7 @@ impl Row for Notice {
     }
 
     fn with_count(self, n: u32) -> Notice {
-        Notice {
-            seller: self.seller,
-            session: self.session,
-            count: n,
-        }
+        Notice { count: n, ..self }
     }
 }
 

@@ -7,7 +7,7 @@ ghost use Rattle.tally.specs.Runs.{after, reply};
 ghost use Rattle.tally.specs.Steps.{register};
 ghost use Rattle.ledger.specs.Ledgers.{view, terms_of};
 ghost use Rattle.ledger.specs.Told.{judged, told};
-ghost use Rattle.tally.specs.declared.call.Answer.TheVariants.{Numbered};
+ghost use Rattle.tally.specs.declared.call.Reply.TheVariants.{Numbered};
 
 use crate::state::Ledger;
 use tally::call::Registration;

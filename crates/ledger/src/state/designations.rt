@@ -1,12 +1,12 @@
 // A designation: the oldest due notice is given the oldest lot.
-ghost use Rattle.std.specs.Prelude.{◌≡◌, ◌-◌, ◌≤◌, false, length, is_ok, None, slice_index_or, unsigned_abs};
+ghost use Rattle.std.specs.Prelude.{◌≡◌, ◌-◌, ◌≤◌, false, length, is_ok, None, Ok, slice_index_or, unsigned_abs};
 ghost use Rattle.tally.specs.Book.{numbered};
 ghost use Rattle.tally.specs.Events.{designating};
 ghost use Rattle.tally.specs.Law.{Registered};
 ghost use Rattle.tally.specs.Questions.{is_due, nobody, verdict};
 ghost use Rattle.tally.specs.Runs.{after, designation_of, reply};
 ghost use Rattle.tally.specs.Steps.{designate_oldest, designated_account, paired as paired_of};
-ghost use Rattle.tally.specs.declared.call.Answer.TheVariants.{Designated};
+ghost use Rattle.tally.specs.declared.call.Reply.TheVariants.{Designated};
 ghost use Rattle.ledger.specs.Designations.{less_long, less_short};
 ghost use Rattle.ledger.specs.Ledgers.{view, terms_of};
 ghost use Rattle.ledger.specs.Told.{judged, told};
@@ -76,7 +76,7 @@ impl Ledger {
     // Gives the oldest notice, which is due, the oldest lot.
     fn pair_oldest(&mut self) -> Designation
         requires { verdict (terms_of self.old) (view self.old) designating ≡ None }
-        ensures answer { Designated result ≡ designation_of (view self.old) (view self.old).notices (view self.old).lots }
+        ensures answer { Ok (Designated result) ≡ designation_of (view self.old) (view self.old).notices (view self.old).lots }
         ensures view { view self.new ≡ designate_oldest (view self.old) (view self.old).notices (view self.old).lots }
         ensures terms { self.new.terms ≡ self.old.terms }
     {

@@ -6,7 +6,7 @@ ghost use Rattle.tally.specs.Pages.{by_expiry, page as page_of, roll};
 ghost use Rattle.tally.specs.Questions.{verdict};
 ghost use Rattle.tally.specs.Runs.{after, reply, written};
 ghost use Rattle.tally.specs.Steps.{expire};
-ghost use Rattle.tally.specs.declared.call.Answer.TheVariants.{Paid};
+ghost use Rattle.tally.specs.declared.call.Reply.TheVariants.{Paid};
 ghost use Rattle.ledger.specs.Ledgers.{view, terms_of};
 ghost use Rattle.ledger.specs.Told.{judged, over, told};
 

@@ -1,15 +1,14 @@
-use Rattle.std.proofs.Common.{◌<◌, length, ◌∙◌, subst, rules}
+use Rattle.std.proofs.Common.{◌<◌, length, Ok, ◌∙◌, subst, rules}
 use Rattle.text.specs.Puts.{Puts}
-use Rattle.tally.specs.declared.call.Answer.TheVariants.{Refused}
-use Rattle.tally.specs.declared.call.Answer.{Answer}
-use Rattle.tally.specs.declared.refusal.Refusal.TheVariants.{Unbuildable}
+use Rattle.tally.specs.Answers.{Answer}
+use Rattle.tally.specs.declared.call.Reply.TheVariants.{Numbered}
 use Rattle.desk.specs.Tellers.{stage}
 use Rattle.desk.proofs.Tales.{first_told, first_after}
 use Rattle.desk.proofs.telling.Teller.tell_next.Goals as goal
 
 -- what stands past the last answer
 abbrev blank : Answer
-blank = Refused Unbuildable
+blank = Ok (Numbered 0)
 
 pub returns : goal.returns
 returns c =

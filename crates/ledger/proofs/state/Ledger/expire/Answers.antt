@@ -1,7 +1,7 @@
-use Rattle.std.proofs.Common.{◌≡◌, length, Some, None, sym, ap, ◌∙◌}
+use Rattle.std.proofs.Common.{◌≡◌, length, Some, None, Ok, sym, ap, ◌∙◌}
 use Rattle.std.proofs.lemmas.Bool.{false≢true}
 use Rattle.kinds.specs.Meaning.{cents_of}
-use Rattle.tally.specs.declared.call.Answer.TheVariants.{Paid}
+use Rattle.tally.specs.declared.call.Reply.TheVariants.{Paid}
 use Rattle.tally.specs.Events.{expiring}
 use Rattle.tally.specs.Questions.{verdict}
 use Rattle.tally.specs.Runs.{after, reply, written}
@@ -30,7 +30,7 @@ returns c =
     let same = ap (λ o. expiring (cents_of o) rows) (sym there) in
     let none : verdict (terms_of l) (view l) e ≡ None = ap (verdict (terms_of l) (view l)) same ∙ passed _ c.in_ok-expiry_verdict.ensures in
     record {
-      answers = ap Paid c.expire_at.ensures.sums ∙ sym (replied (terms_of l) (view l) e none) ∙ ap (reply (terms_of l) (view l)) same;
+      answers = ap (λ s. Ok (Paid s)) c.expire_at.ensures.sums ∙ sym (replied (terms_of l) (view l) e none) ∙ ap (reply (terms_of l) (view l)) same;
       after = c.expire_at.ensures.view ∙ sym (accepted (terms_of l) (view l) e none) ∙ ap (after (terms_of l) (view l)) same;
       terms = c.expire_at.ensures.terms;
       page = c.expire_at.ensures.page ∙ ap (λ xs. over xs c.args.page.now) (sym (wrote (terms_of l) (view l) e none) ∙ ap (written (terms_of l) (view l)) same);

@@ -1,6 +1,6 @@
-use Rattle.std.proofs.Common.{length, sym, ap, ◌∙◌}
+use Rattle.std.proofs.Common.{length, Ok, sym, ap, ◌∙◌}
 use Rattle.std.proofs.lemmas.Bool.{false≢true}
-use Rattle.tally.specs.declared.call.Answer.TheVariants.{Paid}
+use Rattle.tally.specs.declared.call.Reply.TheVariants.{Paid}
 use Rattle.tally.specs.Events.{marking}
 use Rattle.tally.specs.Steps.{done}
 use Rattle.ledger.specs.Ledgers.{view, terms_of}
@@ -18,7 +18,7 @@ returns c =
     let e = marking c.args.marking (length c.args.page.now) in
     let none = passed _ c.in_ok-mark_verdict.ensures in
     record {
-      answers = ap Paid c.close_session.ensures.sums ∙ sym (replied (terms_of l) (view l) e none);
+      answers = ap (λ s. Ok (Paid s)) c.close_session.ensures.sums ∙ sym (replied (terms_of l) (view l) e none);
       after = c.close_session.ensures.view ∙ sym (accepted (terms_of l) (view l) e none);
       terms = c.close_session.ensures.terms;
       page = c.close_session.ensures.page ∙ ap (λ rows. over rows c.args.page.now) (sym (wrote (terms_of l) (view l) e none));

@@ -1,5 +1,5 @@
-use Rattle.std.proofs.Common.{◌≡◌, ◌+◌, [], ◌∷◌, length, sym, ap, ◌∙◌}
-use Rattle.tally.specs.declared.call.Answer.TheVariants.{Numbered}
+use Rattle.std.proofs.Common.{◌≡◌, ◌+◌, [], ◌∷◌, length, Ok, sym, ap, ◌∙◌}
+use Rattle.tally.specs.declared.call.Reply.TheVariants.{Numbered}
 use Rattle.std.proofs.lemmas.List.{length-append}
 use Rattle.std.proofs.lemmas.Bool.{false≢true}
 use Rattle.tally.specs.Events.{registering}
@@ -18,7 +18,7 @@ returns c =
     let number : c.enroll.new.self.registered ≡ length (view l).accounts + 1 =
     sym (registered_is c.enroll.new.self) ∙ ap (λ v. length v.accounts) c.enroll.ensures.view ∙ length-append (view l).accounts (new_account r ∷ []) in
     record {
-      answers = ap Numbered number ∙ sym (replied (terms_of l) (view l) (registering r) none);
+      answers = ap (λ n. Ok (Numbered n)) number ∙ sym (replied (terms_of l) (view l) (registering r) none);
       after = c.enroll.ensures.view ∙ sym (accepted (terms_of l) (view l) (registering r) none);
       terms = c.enroll.ensures.terms;
       same = λ e. absurd (false≢true (sym e));
