@@ -1,9 +1,9 @@
 // What opens a book.
-ghost use Rattle.std.specs.Prelude.{◌≡◌};
+ghost use Rattle.std.specs.Prelude.{◌≡◌, IfOk, IfSome};
 ghost use Rattle.kinds.specs.Tickers.{row};
 ghost use Rattle.reader.specs.Saying.{said};
 ghost use Rattle.ledger.specs.Ledgers.{terms_in};
-ghost use Rattle.desk.specs.Openings.{Builds, is_delivery, opening_to, terms_for};
+ghost use Rattle.desk.specs.Openings.{IsBuildable, opening_to, terms_for};
 
 use crate::faults::Fault;
 use kinds::months::Ticker;
@@ -22,16 +22,6 @@ pub struct Opening {
     pub sessions: Sessions,
 }
 
-// Whether a contract that ends so delivers.
-fn delivers(ending: Ending) -> bool
-    ensures value { result ≡ is_delivery ending }
-{
-    match ending {
-        Ending::Delivery => true,
-        Ending::WeightedAverage | Ending::LastFive => false,
-    }
-}
-
 // The terms that the book would be built on.
 fn book_terms(opening: Opening) -> BookTerms
     ensures value { terms_in result ≡ terms_for opening }
@@ -41,7 +31,7 @@ fn book_terms(opening: Opening) -> BookTerms
         size: terms.size(),
         currency: terms.currency(),
         tick: terms.tick(),
-        delivers: delivers(opening.ticker.ending()),
+        delivers: matches!(opening.ticker.ending(), Ending::Delivery),
         last: opening.sessions.last,
         opens: opening.sessions.opens,
         closes: opening.sessions.closes,
@@ -51,7 +41,7 @@ fn book_terms(opening: Opening) -> BookTerms
 // What is said to a record while no book is open: the book that it opens, if it does.
 pub fn opened_by(came: Result<Record, ReadFault>) -> Result<Option<Opening>, Fault>
     ensures value { result ≡ opening_to (said came.entry) }
-    ensures built { Builds result }
+    ensures built { IfOk result (λ o. IfSome o IsBuildable) }
 {
     let entry = came?;
     match entry {

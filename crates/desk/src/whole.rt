@@ -3,7 +3,7 @@ ghost use Rattle.std.specs.Prelude.{◌≡◌, ◌+◌, ◌*◌, ◌^◌, ◌≤
 ghost use Rattle.desk.specs.Report.{report as report_of};
 ghost use Rattle.desk.specs.declared.whole.Shortage.TheVariants.{Memory};
 
-use crate::run::{PAGE_ROWS, settle};
+use crate::run::{PAGE_ROWS, Tables, settle};
 use reader::whole::count_records;
 use std::alloc::{AllocError, Global};
 use tally::call::{Answer, Call, Reply};
@@ -50,16 +50,10 @@ fn room(records: usize) -> Option<usize>
 }
 
 // Writes the report into text that has room for it, and cuts it to its length.
-fn fill(
-    input: &[u8],
-    calls: &mut [Call],
-    log: &mut [Answer],
-    pages: &mut [PageRow],
-    mut text: Vec<u8>,
-) -> Result<Vec<u8>, Shortage>
+fn fill(input: &[u8], tables: Tables, mut text: Vec<u8>) -> Result<Vec<u8>, Shortage>
     ensures { IfOk result (λ v. v.items ≡ report_of input.now) }
 {
-    let Some(end) = settle(input, calls, log, pages, &mut text) else {
+    let Some(end) = settle(input, tables, &mut text) else {
         return Err(Shortage::Room);
     };
     text.truncate(end);
@@ -77,10 +71,11 @@ pub fn report(heap: Global, input: &[u8]) -> Result<Vec<u8>, Shortage>
     let text = vec![in heap; 0u8; room]?;
     let mut calls = vec![in heap; Call::Designate; records]?;
     let mut log = vec![in heap; Ok(Reply::Accepted); records]?;
-    let row = PageRow {
-        day_trade: 0,
-        margin: 0,
+    let mut pages = vec![in heap; PageRow::default(); PAGE_ROWS]?;
+    let tables = Tables {
+        calls: &mut calls,
+        log: &mut log,
+        pages: &mut pages,
     };
-    let mut pages = vec![in heap; row; PAGE_ROWS]?;
-    fill(input, &mut calls, &mut log, &mut pages, text)
+    fill(input, tables, text)
 }
