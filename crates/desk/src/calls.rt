@@ -1,12 +1,12 @@
 // The call that a record makes of a book.
 ghost use Rattle.std.specs.Prelude.{◌≡◌, ◌+◌, ◌≤◌, length};
 ghost use Rattle.reader.specs.Readings.{part as part_of};
-ghost use Rattle.reader.specs.Saying.{said, Whole};
+ghost use Rattle.reader.specs.Saying.{said};
 ghost use Rattle.desk.specs.Calls.{call_of, identified};
 
 use kinds::quotation::Quotation;
 use reader::fault::ReadFault;
-use reader::record::Record;
+use reader::record::{Content, Record};
 use tally::call::{Call, Marking, Notification, Registration};
 use tally::rows::{Identity, Trade};
 
@@ -30,55 +30,44 @@ fn identity(bytes: &[u8]) -> Identity
 
 // The call that a line makes, if it was read and makes one.
 pub fn call(came: Result<Record, ReadFault>) -> Option<Call>
-    requires whole { Whole came }
     ensures value { result ≡ call_of (said came.entry) }
 {
     match came {
         Err(_) => None,
-        Ok(entry) => match entry {
-            Record::Opening { .. } => None,
-            Record::Registration {
-                identity: bytes,
+        Ok(record) => match record.content {
+            Content::Opening { .. } => None,
+            Content::Registration {
+                identity: id,
                 residency,
-                ..
             } => Some(Call::Register(Registration {
-                identity: identity(bytes),
+                identity: identity(id.bytes),
                 residency,
             })),
-            Record::Trade {
+            Content::Trade {
                 buyer,
                 seller,
                 price,
                 contracts,
-                ..
             } => Some(Call::Trade(Trade {
                 buyer: buyer.value() as usize,
                 seller: seller.value() as usize,
                 price: u64::from(price.value()),
                 contracts: u64::from(contracts.value()),
             })),
-            Record::Quotation {
-                price,
-                quantity,
-                ..
-            } => Some(Call::Quote(Quotation {
+            Content::Quotation { price, quantity } => Some(Call::Quote(Quotation {
                 price: u64::from(price.value()),
                 quantity: u64::from(quantity.value()),
             })),
-            Record::Notice {
-                seller,
-                contracts,
-                ..
-            } => Some(Call::Notify(Notification {
+            Content::Notice { seller, contracts } => Some(Call::Notify(Notification {
                 seller: seller.value() as usize,
                 contracts: u64::from(contracts.value()),
             })),
-            Record::Marking { price, rate, .. } => Some(Call::Mark(Marking {
+            Content::Marking { price, rate } => Some(Call::Mark(Marking {
                 price: u64::from(price.value()),
                 rate: u64::from(rate.value()),
             })),
-            Record::Designation { .. } => Some(Call::Designate),
-            Record::Expiry { .. } => Some(Call::Expire),
+            Content::Designation => Some(Call::Designate),
+            Content::Expiry => Some(Call::Expire),
         },
     }
 }

@@ -11,7 +11,7 @@ use kinds::tickers::Ending;
 use ledger::state::BookTerms;
 use ledger::state::opening::is_buildable;
 use reader::fault::ReadFault;
-use reader::record::Record;
+use reader::record::{Content, Record};
 use tally::refusal::Refusal;
 use tally::sessions::Sessions;
 
@@ -43,9 +43,8 @@ pub fn opened_by(came: Result<Record, ReadFault>) -> Result<Option<Opening>, Fau
     ensures value { result ≡ opening_to (said came.entry) }
     ensures built { IfOk result (λ o. IfSome o IsBuildable) }
 {
-    let entry = came?;
-    match entry {
-        Record::Opening {
+    match came?.content {
+        Content::Opening {
             ticker,
             sessions,
             opens,

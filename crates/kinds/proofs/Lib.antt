@@ -3,6 +3,6 @@ pub mod NoneShown
 pub mod Priced
 pub mod Averaging
 pub mod AverageShown
-pub mod FivePlaces
+pub mod Sliding
 pub mod IndexShown
 pub mod FiveWorked

@@ -2,14 +2,14 @@
 use Rattle.std.specs.Prelude.{◌≡◌, ℕ, ◌≤◌, Bool, true, false, IfSome, is_ok, Some, None, Option}
 use Rattle.money.specs.Ranges.{is_price}
 use Rattle.money.specs.declared.currency.Currency.{Currency}
-use Rattle.money.specs.declared.units.Price.{Price}
+use Rattle.money.specs.Units.{PriceCents}
 use Rattle.kinds.specs.declared.quotation.Quotation.{Quotation}
 use Rattle.kinds.specs.Quotations.{Reply, quotable}
 
 -- the cents of a price, where there is one
-abbrev pub cents_of : Option Price → Option ℕ
+abbrev pub cents_of : Option PriceCents → Option ℕ
 cents_of None = None
-cents_of (Some p) = Some p.cents
+cents_of (Some p) = Some p.number
 
 -- a kind whose states are K: what it answers and becomes, and the laws that every kind owes
 pub record Meaning (K : Type 0) : Type 0 where

@@ -3,6 +3,7 @@ ghost use Rattle.std.specs.Prelude.{◌≡◌, ◌≤◌};
 ghost use Rattle.kinds.specs.Meaning.{Meaning, cents_of};
 
 use crate::quotation::{KindFault, Quotation};
+use crate::terms::Terms;
 use money::currency::Currency;
 use money::units::Price;
 
@@ -11,19 +12,34 @@ pub trait Contract {
     // What the kind answers and becomes, with the laws that every kind owes.
     ghost means: { Meaning Self };
 
+    // What never changes of the contract.
+    fn terms(&self) -> Terms
+        ensures size { result.size ≡ means.size self.now }
+        ensures currency { result.currency ≡ means.currency self.now }
+        ensures tick { result.tick ≡ means.tick self.now };
+
     // How many units one contract is of.
     fn contract_size(&self) -> u32
         ensures value { result ≡ means.size self.now }
-        ensures within { (1 ≤ result) × (result ≤ 100) };
+        ensures within { (1 ≤ result) × (result ≤ 100) }
+    {
+        self.terms().size()
+    }
 
     // What prices are counted in.
     fn currency(&self) -> Currency
-        ensures { result ≡ means.currency self.now };
+        ensures { result ≡ means.currency self.now }
+    {
+        self.terms().currency()
+    }
 
     // The step that prices of trades go by, in cents.
     fn tick(&self) -> u32
         ensures value { result ≡ means.tick self.now }
-        ensures within { 1 ≤ result };
+        ensures within { 1 ≤ result }
+    {
+        self.terms().tick()
+    }
 
     // Whether the contract ends in delivery.
     fn delivers(&self) -> bool

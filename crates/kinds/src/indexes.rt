@@ -2,14 +2,14 @@
 ghost use Rattle.kinds.specs.Indexes.{FiveFit};
 
 use crate::terms::Terms;
+use arrayvec::ArrayVec;
 
 pub mod kind;
 
-// The last five indexes taken, the newest last; until the fifth has come, the places before the first hold the least price.
-#[derive(Clone, Copy)]
+// The indexes taken, the last five at most, the newest last.
+#[derive(Drop)]
 pub struct LastFive {
     terms: Terms,
-    last: [u64; 5],
-    held: u64,
-    ghost ok: { FiveFit last held },
+    last: ArrayVec<u64, 5>,
+    ghost ok: { FiveFit last.items },
 }

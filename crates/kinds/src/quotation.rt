@@ -21,8 +21,7 @@ impl Quotation {
         ensures { result ≡ quotable self }
     {
         Price::new(self.price).is_some()
-            && self.quantity >= Self::LEAST_QUANTITY
-            && self.quantity <= Self::GREATEST_QUANTITY
+            && (Self::LEAST_QUANTITY..=Self::GREATEST_QUANTITY).contains(&self.quantity)
     }
 }
 
@@ -41,8 +40,7 @@ impl KindFault {
         ensures { result ≡ fault_number self }
     {
         match self {
-            KindFault::Unfit => 14,
-            KindFault::Full => 14,
+            KindFault::Unfit | KindFault::Full => 14,
         }
     }
 }

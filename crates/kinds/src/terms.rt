@@ -5,7 +5,7 @@ ghost use Rattle.kinds.specs.Limits.{is_size, is_tick};
 use money::currency::Currency;
 
 // How many units one contract is of, what its prices are counted in, and what step they go by, in cents.
-#[derive(Clone, Copy)]
+#[derive(Clone, Copy, Debug, PartialEq, Eq)]
 pub struct Terms {
     size: u32,
     currency: Currency,
@@ -26,7 +26,7 @@ impl Terms {
         ensures test { is_some result ≡ (is_size size && is_tick tick) }
         ensures some { IfSome result (λ t. (t.size ≡ size) × (t.currency ≡ currency) × (t.tick ≡ tick)) }
     {
-        if size >= Self::LEAST_SIZE && size <= Self::GREATEST_SIZE && tick >= Self::LEAST_TICK {
+        if (Self::LEAST_SIZE..=Self::GREATEST_SIZE).contains(&size) && tick >= Self::LEAST_TICK {
             Some(Terms {
                 size,
                 currency,

@@ -7,7 +7,7 @@ use crate::terms::Terms;
 use money::currency::Currency;
 
 // How a contract ends: in delivery, or at a final price of its own making.
-#[derive(Clone, Copy)]
+#[derive(Clone, Copy, Debug, PartialEq, Eq)]
 pub enum Ending {
     Delivery,
     WeightedAverage,

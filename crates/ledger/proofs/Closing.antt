@@ -6,7 +6,7 @@ use borrow.Author.Differences.{ints}
 use Rattle.std.proofs.lemmas.List.{take_at}
 use Rattle.std.proofs.lemmas.Bool.{and_from, and_parts, eqb-true, le-leb, leb-true}
 use Rattle.money.specs.Ranges.{is_price, is_rate}
-use Rattle.money.specs.declared.units.Price.{Price}
+use Rattle.money.specs.Units.{PriceCents}
 use Rattle.kinds.specs.Meaning.{cents_of}
 use Rattle.tally.specs.declared.call.Marking.{Marking as MarkingCall}
 use Rattle.tally.specs.declared.rows.Account.{Account}
@@ -168,7 +168,7 @@ expired_view l final owed lots eo ea eu =
     (ap (λ n. take n lots) eu)
 
 -- an accepted expiry has its final price
-pub final_there : (l : Ledger) (final : Option Price) (rows : ℕ) → verdict (terms_of l) (view l) (expiring (cents_of final) rows) ≡ None → is_some final ≡ true
+pub final_there : (l : Ledger) (final : Option PriceCents) (rows : ℕ) → verdict (terms_of l) (view l) (expiring (cents_of final) rows) ≡ None → is_some final ≡ true
 unfolding questions
 final_there l None rows q = (met _ _ (met _ _ q).1).0
 final_there l (Some p) rows q = refl

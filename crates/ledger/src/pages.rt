@@ -17,7 +17,7 @@ use tally::rows::{Account, PageRow, Sums};
 // Pays one line, of an amount that fits.
 fn pay_line(cents: i64, currency: Currency, payee: Residency, rate: Rate) -> Payment
     requires { unsigned_abs cents ≤ 600000000000 }
-    ensures value { result ≡ payment_of cents currency payee rate.millionths }
+    ensures value { result ≡ payment_of cents currency payee rate.number }
     ensures within { PaidIn result }
 {
     let amount = Amount::new(cents).unwrap();
@@ -62,8 +62,8 @@ pub(crate) fn pay_page(
     requires beside { length owed.now ≡ length accounts.now }
     requires owed { AllByRecursion OwedIn owed.now }
     requires page { length accounts.now ≤ length page.old }
-    ensures page { page.new ≡ over (zip2 (row_to currency rate.millionths) accounts.now owed.now) page.old }
-    ensures sums { result ≡ sums_of (lines_to currency rate.millionths accounts.now owed.now) }
+    ensures page { page.new ≡ over (zip2 (row_to currency rate.number) accounts.now owed.now) page.old }
+    ensures sums { result ≡ sums_of (lines_to currency rate.number accounts.now owed.now) }
 {
     let mut sums = Sums {
         reais: 0,

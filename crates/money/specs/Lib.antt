@@ -1,4 +1,5 @@
 pub mod Ranges
+pub mod Units
 pub mod Weights
 pub mod Nearest
 pub mod Pays

@@ -3,7 +3,7 @@ ghost use Rattle.std.specs.Prelude.{◌≡◌, ◌≤◌, is_some, IfSome, unsig
 ghost use Rattle.money.specs.Ranges.{is_amount};
 
 // What one line owes, in cents; a debit is negative.
-#[derive(Clone, Copy)]
+#[derive(Clone, Copy, Debug, PartialEq, Eq, PartialOrd, Ord)]
 pub struct Amount {
     cents: i64,
     ghost within: { unsigned_abs cents ≤ 600000000000 },

@@ -43,7 +43,7 @@ fn nearest(n: i64, d: u32) -> i64
 
 // What one cent weighs.
 fn cent_weight(currency: Currency, rate: Rate) -> u32
-    ensures value { result ≡ weight currency rate.millionths }
+    ensures value { result ≡ weight currency rate.number }
     ensures low { 100000 ≤ result }
     ensures high { result ≤ 9999999 }
 {
@@ -70,8 +70,8 @@ fn is_converted(amount: Amount, contract: Currency, payee: Residency) -> bool
 
 // Pays a line of the contract's currency to its payee, at the rate of its page.
 pub fn pay(amount: Amount, contract: Currency, payee: Residency, rate: Rate) -> Payment
-    ensures pays { Pays amount.cents contract payee rate.millionths result }
-    ensures value { result ≡ payment_of amount.cents contract payee rate.millionths }
+    ensures pays { Pays amount.cents contract payee rate.number result }
+    ensures value { result ≡ payment_of amount.cents contract payee rate.number }
 {
     let cents = amount.cents();
     let currency = payee.paid_in();

@@ -1,17 +1,22 @@
 -- Which answer a line gets, from what was asked of it. Assumes nothing.
-use Rattle.std.proofs.Common.{◌≡◌, ℕ, ◌+◌, ◌-◌, ◌<◌, ◌≤◌, Bool, true, false, cond, ltb, List, length, take, drop, Some, None, Err, Result, sym, ap, ◌∙◌, arith, length-drop}
+use Rattle.std.proofs.Common.{◌≡◌, ℕ, ◌+◌, ◌-◌, ◌<◌, ◌≤◌, Bool, true, false, cond, ltb, List, [], ◌∷◌, length, take, drop, Some, None, Err, Option, sym, refl, ap, ◌∙◌, arith, length-drop}
 use Rattle.std.specs.Option.{ok_or}
-use Rattle.std.specs.List.{common_prefix_len}
+use Rattle.std.specs.List.{common_prefix_len, prefix_len, zip}
 use Rattle.std.proofs.lemmas.List.{take_rest}
 use Rattle.std.proofs.lemmas.List.Sums.{common_prefix_len-le}
 use Rattle.std.proofs.lemmas.Bool.{lt-ltb, le-ltb}
-use Rattle.reader.specs.declared.fault.ReadFault.{ReadFault}
 use Rattle.reader.specs.declared.fault.ReadFault.TheVariants.{UnknownMark, Misfit, OutOfTurn, Unlisted}
 use Rattle.reader.specs.declared.layout.Class.{Class}
 use Rattle.reader.specs.declared.layout.Mark.{Mark}
 use Rattle.reader.specs.Entries.{Entry}
 use Rattle.reader.specs.Layouts.{accepts, fitting, layout, marked, out_of_turn}
 use Rattle.reader.specs.Readings.{asked, asked_of, asked_on, spelling, written}
+
+-- bytes and classes counted pair by pair
+pub fitting_pairs : (classes : List Class) (bytes : List ℕ) → prefix_len (λ p. accepts p.0 p.1) (zip classes bytes) ≡ common_prefix_len accepts classes bytes
+fitting_pairs [] bytes = refl
+fitting_pairs (c ∷ cs) [] = refl
+fitting_pairs (c ∷ cs) (b ∷ bs) = ap (λ n. cond (accepts c b) (1 + n) 0) (fitting_pairs cs bs)
 
 -- what was counted is what fits, and no more than the line has
 pub fit_is : (m : Mark) (classes : List Class) (line : List ℕ) (n : ℕ) → classes ≡ layout m → n ≡ common_prefix_len accepts classes (take (length line - 2) (drop 2 line)) → n ≡ fitting m line
@@ -44,5 +49,5 @@ module _ (opened : Bool) (at : ℕ) (line : List ℕ) where
       pub turned : true ≡ out_of_turn opened m → Err (OutOfTurn at) ≡ spelling opened at line
       turned e = ap (λ b. cond b (Err (OutOfTurn at)) (ok_or (written m line) (Unlisted at))) e ∙ passed
 
-      pub in_turn : (r : Result (Entry (List ℕ)) ReadFault) → false ≡ out_of_turn opened m → r ≡ ok_or (written m line) (Unlisted at) → r ≡ spelling opened at line
-      in_turn r e told = told ∙ ap (λ b. cond b (Err (OutOfTurn at)) (ok_or (written m line) (Unlisted at))) e ∙ passed
+      pub in_turn : (o : Option (Entry (List ℕ))) → false ≡ out_of_turn opened m → o ≡ written m line → ok_or o (Unlisted at) ≡ spelling opened at line
+      in_turn o e told = ap (λ w. ok_or w (Unlisted at)) told ∙ ap (λ b. cond b (Err (OutOfTurn at)) (ok_or (written m line) (Unlisted at))) e ∙ passed

@@ -1,7 +1,8 @@
 -- The lines of an input, one by one. Assumes nothing.
-use Rattle.std.proofs.Common.{◌≡◌, ℕ, suc, ◌+◌, ◌-◌, ◌<◌, ◌≤◌, min, Bool, true, false, cond, not, List, [], ◌∷◌, length, take, drop, sym, refl, ap, ◌∙◌, arith, length-drop}
-use Rattle.std.specs.List.{prefix_len}
+use Rattle.std.proofs.Common.{◌≡◌, ℕ, suc, ◌+◌, ◌-◌, ◌<◌, ◌≤◌, min, Bool, true, false, cond, not, List, [], ◌∷◌, length, take, drop, Some, None, sym, refl, ap, ◌∙◌, arith, length-drop}
+use Rattle.std.specs.List.{prefix_len, position}
 use Rattle.std.proofs.lemmas.List.{drop-drop, drop_all}
+use Rattle.std.proofs.lemmas.Bool.Decides.{nat_tests}
 use Rattle.reader.specs.Cuts.{is_newline, lines, onto_first}
 use Rattle.reader.specs.Readings.{part}
 
@@ -42,6 +43,13 @@ first_from s at r h e =
     let wide : width (drop at s) ≡ r - at = omega arith in
     let on : drop (width (drop at s)) (drop at s) ≡ drop r s = drop-drop (width (drop at s)) at s ∙ ap (λ n. drop n s) (sym e) in
     lines_first (drop at s) (omega (arith, length-drop at s)) ∙ ap (λ n. take n (drop at s) ∷ lines (drop (width (drop at s)) (drop at s))) wide ∙ ap (λ l. part at (r - at) s ∷ lines l) on
+
+-- so the first newline of what is left ends its first line, and with none the input does
+pub ended_at : (s : List ℕ) (at w : ℕ) → at < length s → position is_newline (drop at s) ≡ Some w → lines (drop at s) ≡ part at (at + w + 1 - at) s ∷ lines (drop (at + w + 1) s)
+ended_at s at w h found = first_from s at (at + w + 1) h (grind (arith, nat_tests))
+
+pub unended : (s : List ℕ) (at : ℕ) → at < length s → position is_newline (drop at s) ≡ None → lines (drop at s) ≡ part at (length s - at) s ∷ lines (drop (length s) s)
+unended s at h none = first_from s at (length s) h (grind (arith, nat_tests, length-drop))
 
 -- an input at its end has no more lines
 pub none_left : (s : List ℕ) (at : ℕ) → length s ≤ at → lines (drop at s) ≡ []

@@ -21,7 +21,7 @@ impl Digits<'_> {
         }
         let mut n: u32 = 0;
         for b in self.bytes {
-            if *b < b'0' || *b > b'9' {
+            if !b.is_ascii_digit() {
                 return 0;
             }
             n = n * 10 + u32::from(*b - b'0');

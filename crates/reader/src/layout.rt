@@ -66,8 +66,8 @@ impl Class {
         ensures value { result ≡ accepts self byte }
     {
         match self {
-            Class::Digit => b'0' <= byte && byte <= b'9',
-            Class::Letter => b'A' <= byte && byte <= b'Z',
+            Class::Digit => byte.is_ascii_digit(),
+            Class::Letter => byte.is_ascii_uppercase(),
             Class::Text => byte != b'\n',
             Class::Residence => byte == b'R' || byte == b'N',
             Class::Newline => byte == b'\n',
@@ -84,10 +84,7 @@ impl Mark {
         ensures value { result ≡ marked line.now }
         ensures some { OnSome result (2 ≤ length line.now) }
     {
-        if line.len() < Self::WIDTH {
-            return None;
-        }
-        match &line[0..Self::WIDTH] {
+        match line.first_chunk()? {
             b"BK" => Some(Mark::Opening),
             b"AC" => Some(Mark::Registration),
             b"TR" => Some(Mark::Trade),
@@ -146,9 +143,9 @@ impl Mark {
 fn fitting(classes: &[Class], bytes: &[u8]) -> usize
     ensures value { result ≡ common_prefix_len accepts classes.now bytes.now }
 {
-    let mut n = 0;
-    while n < classes.len() && n < bytes.len() && classes[n].accepts(bytes[n]) {
-        n += 1;
-    }
-    n
+    classes
+        .iter()
+        .zip(bytes)
+        .take_while(|(class, byte)| class.accepts(**byte))
+        .count()
 }

@@ -3,6 +3,7 @@
 
 pub mod digits;
 pub mod fault;
+pub mod identity;
 mod layout;
 pub mod reading;
 pub mod record;

@@ -1,6 +1,7 @@
 // A reader: one record after another, to the input's end.
 ghost use Rattle.std.specs.Prelude.{◌≡◌, ◌-◌, ◌<◌, ◌≤◌, ◌∷◌, length, drop};
-ghost use Rattle.reader.specs.Cuts.{lines};
+ghost use Rattle.std.specs.List.{position};
+ghost use Rattle.reader.specs.Cuts.{is_newline, lines};
 ghost use Rattle.reader.specs.Readings.{part};
 ghost use Rattle.reader.specs.Steps.{Next};
 
@@ -17,20 +18,23 @@ pub struct Reader<'a> {
     ghost counted: { number ≤ at },
 }
 
+// Where the first newline of some bytes is.
+fn newline(bytes: &[u8]) -> Option<usize>
+    ensures { result ≡ position is_newline bytes.now }
+{
+    bytes.iter().position(|b| *b == b'\n')
+}
+
 // Where the line that begins at a place ends: behind its newline, or with the input.
 fn line_end(input: &[u8], at: usize) -> usize
     requires within { at < length input.now }
     ensures first { lines (drop at input.now) ≡ part at (result - at) input.now ∷ lines (drop result input.now) }
     ensures bound { (at < result) × (result ≤ length input.now) }
 {
-    let mut i = at;
-    while i < input.len() {
-        if input[i] == b'\n' {
-            return i + 1;
-        }
-        i += 1;
+    match newline(&input[at..]) {
+        Some(width) => at + width + 1,
+        None => input.len(),
     }
-    i
 }
 
 impl<'a> Reader<'a> {

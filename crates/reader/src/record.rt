@@ -1,21 +1,28 @@
 // Records, and how one is read from its line.
 ghost use Rattle.std.specs.Prelude.{◌≡◌, ◌+◌, ◌^◌, ◌<◌, ◌≤◌, length};
-ghost use Rattle.std.specs.Option.{ok_or};
+ghost use Rattle.std.specs.Option.{option_map};
 ghost use Rattle.reader.specs.Layouts.{layout};
 ghost use Rattle.reader.specs.Readings.{part, residency_of, spelling, ticker_of, written};
-ghost use Rattle.reader.specs.Saying.{spelt, Starts, Whole};
-ghost use Rattle.reader.specs.declared.fault.ReadFault.TheVariants.{Unlisted};
+ghost use Rattle.reader.specs.Saying.{spelt, spelt_by, Starts};
 ghost use Rattle.reader.specs.declared.layout.Mark.TheVariants.{Opening};
 
 use crate::digits::Digits;
 use crate::fault::ReadFault;
+use crate::identity::IdentityBytes;
 use crate::layout::Mark;
 use kinds::months::Ticker;
 use money::currency::Residency;
 
-// A record, its fields borrowed from the input, with the place of its first byte.
+// A record, with the place of its first byte in the input.
 #[derive(Clone, Copy, Debug)]
-pub enum Record<'a> {
+pub struct Record<'a> {
+    pub at: usize,
+    pub content: Content<'a>,
+}
+
+// What a record says, its fields borrowed from the input.
+#[derive(Clone, Copy, Debug)]
+pub enum Content<'a> {
     Opening {
         ticker: Ticker,
         month: u8,
@@ -23,41 +30,31 @@ pub enum Record<'a> {
         sessions: Digits<'a>,
         opens: Digits<'a>,
         closes: Digits<'a>,
-        at: usize,
     },
     Registration {
-        identity: &'a [u8],
+        identity: IdentityBytes<'a>,
         residency: Residency,
-        at: usize,
     },
     Trade {
         buyer: Digits<'a>,
         seller: Digits<'a>,
         price: Digits<'a>,
         contracts: Digits<'a>,
-        at: usize,
     },
     Quotation {
         price: Digits<'a>,
         quantity: Digits<'a>,
-        at: usize,
     },
     Notice {
         seller: Digits<'a>,
         contracts: Digits<'a>,
-        at: usize,
     },
     Marking {
         price: Digits<'a>,
         rate: Digits<'a>,
-        at: usize,
     },
-    Designation {
-        at: usize,
-    },
-    Expiry {
-        at: usize,
-    },
+    Designation,
+    Expiry,
 }
 
 // The ticker that an opening names.
@@ -102,68 +99,57 @@ fn digits(line: &[u8], from: usize, width: usize) -> Digits<'_>
 }
 
 // The opening of a book, where its ticker is known and lists its month.
-fn opening<'a>(line: &'a [u8], at: usize) -> Result<Record<'a>, ReadFault>
+fn opening(line: &[u8]) -> Option<Content<'_>>
     requires within { 17 ≤ length line.now }
-    ensures value { spelt result ≡ ok_or (written Opening line.now) (Unlisted at) }
-    ensures starts { Starts at result }
-    ensures whole { Whole result }
+    ensures value { option_map spelt_by result ≡ written Opening line.now }
 {
-    let Some(ticker) = ticker(line) else {
-        return Err(ReadFault::Unlisted(at));
-    };
-    let Some(month) = ticker.listed_month(line[5] as char) else {
-        return Err(ReadFault::Unlisted(at));
-    };
-    Ok(Record::Opening {
+    let ticker = ticker(line)?;
+    let month = ticker.listed_month(char::from(line[5]))?;
+    Some(Content::Opening {
         ticker,
         month,
         year: digits(line, 6, 2),
         sessions: digits(line, 8, 3),
         opens: digits(line, 11, 3),
         closes: digits(line, 14, 3),
-        at,
     })
 }
 
-// The record of a line that fits its mark's layout. Fields are given by the place in the line and the width.
-fn cut<'a>(mark: Mark, line: &'a [u8], at: usize) -> Result<Record<'a>, ReadFault>
+// What a line that fits its mark's layout says, unless its contract is not listed. Fields are given by the place in the line and the width.
+fn cut(mark: Mark, line: &[u8]) -> Option<Content<'_>>
     requires within { 2 + length (layout mark) ≤ length line.now }
-    ensures value { spelt result ≡ ok_or (written mark line.now) (Unlisted at) }
-    ensures starts { Starts at result }
-    ensures whole { Whole result }
+    ensures value { option_map spelt_by result ≡ written mark line.now }
 {
-    match mark {
-        Mark::Opening => opening(line, at),
-        Mark::Registration => Ok(Record::Registration {
-            identity: part(line, 2, 14),
+    let content = match mark {
+        Mark::Opening => return opening(line),
+        Mark::Registration => Content::Registration {
+            identity: IdentityBytes {
+                bytes: part(line, 2, 14),
+            },
             residency: residency(line[16]),
-            at,
-        }),
-        Mark::Trade => Ok(Record::Trade {
+        },
+        Mark::Trade => Content::Trade {
             buyer: digits(line, 2, 2),
             seller: digits(line, 4, 2),
             price: digits(line, 6, 6),
             contracts: digits(line, 12, 4),
-            at,
-        }),
-        Mark::Quotation => Ok(Record::Quotation {
+        },
+        Mark::Quotation => Content::Quotation {
             price: digits(line, 2, 6),
             quantity: digits(line, 8, 4),
-            at,
-        }),
-        Mark::Notice => Ok(Record::Notice {
+        },
+        Mark::Notice => Content::Notice {
             seller: digits(line, 2, 2),
             contracts: digits(line, 4, 4),
-            at,
-        }),
-        Mark::Marking => Ok(Record::Marking {
+        },
+        Mark::Marking => Content::Marking {
             price: digits(line, 2, 6),
             rate: digits(line, 8, 7),
-            at,
-        }),
-        Mark::Designation => Ok(Record::Designation { at }),
-        Mark::Expiry => Ok(Record::Expiry { at }),
-    }
+        },
+        Mark::Designation => Content::Designation,
+        Mark::Expiry => Content::Expiry,
+    };
+    Some(content)
 }
 
 // The record of the line at a place of the input, or the first fault that applies.
@@ -175,7 +161,6 @@ pub(crate) fn read_line<'a>(
     requires fits { at + length line.now < 2 ^ 64 }
     ensures value { spelt result ≡ spelling opened at line.now }
     ensures starts { Starts at result }
-    ensures whole { Whole result }
 {
     let Some(mark) = Mark::of(line) else {
         return Err(ReadFault::UnknownMark(at));
@@ -187,5 +172,8 @@ pub(crate) fn read_line<'a>(
     if mark.out_of_turn(opened) {
         return Err(ReadFault::OutOfTurn(at));
     }
-    cut(mark, line, at)
+    let Some(content) = cut(mark, line) else {
+        return Err(ReadFault::Unlisted(at));
+    };
+    Ok(Record { at, content })
 }

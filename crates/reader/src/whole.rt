@@ -10,20 +10,16 @@ pub fn count_records(input: &[u8]) -> usize
     ensures value { result ≡ length (lines input.now) }
 {
     let mut reader = Reader::new(input);
-    while let Some(_) = reader.next(false) {}
+    while reader.next(false).is_some() {}
     reader.number()
 }
 
 // What the cut into lines is: every byte lies in a line, no line is empty, a newline ends its line, and the lines are counted.
-pub fn lines_stand() -> u8
+pub fn lines_stand()
     ensures law { LinesLaw }
-{
-    0
-}
+{}
 
 // A dozen lines and what they are read as.
-pub fn examples_stand() -> u8
+pub fn examples_stand()
     ensures law { Examples }
-{
-    0
-}
+{}

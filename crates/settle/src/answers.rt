@@ -10,7 +10,7 @@ use kinds::contract::Contract;
 use kinds::months::Ticker;
 use kinds::quotation::Quotation;
 use reader::fault::ReadFault;
-use reader::record::Record;
+use reader::record::{Content, Record};
 
 // What came of a record that is not refused: its quotation was taken, or nothing is done with it yet.
 #[derive(Clone, Copy)]
@@ -23,9 +23,8 @@ pub enum Outcome {
 pub fn opened_by(came: Result<Record, ReadFault>) -> Result<Option<Ticker>, Refusal>
     ensures value { result ≡ opening_to (said came.entry) }
 {
-    let entry = came?;
-    match entry {
-        Record::Opening {
+    match came?.content {
+        Content::Opening {
             ticker,
             sessions,
             opens,
@@ -47,13 +46,8 @@ pub fn answer<K: Contract>(
     ensures value { result ≡ answering (course K.Contract.means) kind.old (said came.entry) }
     ensures after { kind.new ≡ answered (course K.Contract.means) kind.old (said came.entry) }
 {
-    let entry = came?;
-    match entry {
-        Record::Quotation {
-            price,
-            quantity,
-            ..
-        } => {
+    match came?.content {
+        Content::Quotation { price, quantity } => {
             let quotation = Quotation {
                 price: u64::from(price.value()),
                 quantity: u64::from(quantity.value()),

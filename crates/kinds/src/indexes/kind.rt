@@ -1,7 +1,8 @@
 // The mean of the last five indexes as a contract kind.
-ghost use Rattle.std.specs.Prelude.{◌≡◌, false, sum};
+ghost use Rattle.std.specs.Prelude.{◌≡◌, false};
 ghost use Rattle.kinds.specs.Quoted.{Starts};
 ghost use Rattle.kinds.specs.Indexes.{index_rule, IndexPrice, is_index};
+ghost use Rattle.kinds.specs.IndexFacts.{with_last};
 ghost use Rattle.kinds.specs.Indexing.{five};
 
 use crate::contract::Contract;
@@ -9,7 +10,7 @@ use crate::indexes::LastFive;
 use crate::means::mean_price;
 use crate::quotation::{KindFault, Quotation};
 use crate::terms::Terms;
-use money::currency::Currency;
+use arrayvec::ArrayVec;
 use money::units::Price;
 
 impl Quotation {
@@ -31,32 +32,26 @@ impl LastFive {
     {
         LastFive {
             terms,
-            last: [Price::LEAST; 5],
-            held: 0,
+            last: ArrayVec::new(),
         }
     }
+}
 
-    // What the five places come to.
-    fn total(&self) -> u64
-        ensures { result ≡ sum self.now.last }
-    {
-        self.last.iter().sum()
+// Puts a price behind the last five at most, and drops the oldest where they are five.
+fn slide(last: &mut ArrayVec<u64, 5>, price: u64)
+    ensures { last.new.items ≡ with_last last.old.items price }
+{
+    if last.is_full() {
+        last.remove(0);
     }
+    last.push(price);
 }
 
 impl Contract for LastFive {
     ghost means = { five };
 
-    fn contract_size(&self) -> u32 {
-        self.terms.size()
-    }
-
-    fn currency(&self) -> Currency {
-        self.terms.currency()
-    }
-
-    fn tick(&self) -> u32 {
-        self.terms.tick()
+    fn terms(&self) -> Terms {
+        self.terms
     }
 
     fn delivers(&self) -> bool {
@@ -64,19 +59,17 @@ impl Contract for LastFive {
     }
 
     fn final_price(&self) -> Option<Price> {
-        if self.held < Self::INDEXES {
+        if !self.last.is_full() {
             return None;
         }
-        mean_price(self.total(), Self::INDEXES)
+        mean_price(self.last.iter().sum(), Self::INDEXES)
     }
 
     fn quote(&mut self, quotation: Quotation) -> Result<(), KindFault> {
         if !quotation.is_index() {
             return Err(KindFault::Unfit);
         }
-        let last = self.last;
-        self.last = [last[1], last[2], last[3], last[4], quotation.price];
-        self.held = Self::INDEXES.min(self.held + 1);
+        slide(&mut self.last, quotation.price);
         Ok(())
     }
 }

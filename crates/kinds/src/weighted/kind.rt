@@ -9,7 +9,6 @@ use crate::means::mean_price;
 use crate::quotation::{KindFault, Quotation};
 use crate::terms::Terms;
 use crate::weighted::WeightedAverage;
-use money::currency::Currency;
 use money::units::Price;
 
 impl WeightedAverage {
@@ -31,16 +30,8 @@ impl WeightedAverage {
 impl Contract for WeightedAverage {
     ghost means = { weighted };
 
-    fn contract_size(&self) -> u32 {
-        self.terms.size()
-    }
-
-    fn currency(&self) -> Currency {
-        self.terms.currency()
-    }
-
-    fn tick(&self) -> u32 {
-        self.terms.tick()
+    fn terms(&self) -> Terms {
+        self.terms
     }
 
     fn delivers(&self) -> bool {

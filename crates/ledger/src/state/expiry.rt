@@ -43,11 +43,11 @@ impl Ledger {
 
     // Writes an expiry that meets its questions: the page is paid at the last marking's rate, and nothing is carried or held in lots any more.
     fn expire_at(&mut self, price: Price, page: &mut [PageRow]) -> Sums
-        requires { verdict (terms_of self.old) (view self.old) (expiring (Some price.cents) (length page.old)) ≡ None }
-        ensures view { view self.new ≡ expire (terms_of self.old) (view self.old) price.cents }
+        requires { verdict (terms_of self.old) (view self.old) (expiring (Some price.number) (length page.old)) ≡ None }
+        ensures view { view self.new ≡ expire (terms_of self.old) (view self.old) price.number }
         ensures terms { self.new.terms ≡ self.old.terms }
-        ensures page { page.new ≡ over (page_of (terms_of self.old) (view self.old).rate (by_expiry (terms_of self.old) (view self.old) price.cents) (roll (view self.old))).rows page.old }
-        ensures sums { result ≡ (page_of (terms_of self.old) (view self.old).rate (by_expiry (terms_of self.old) (view self.old) price.cents) (roll (view self.old))).totals }
+        ensures page { page.new ≡ over (page_of (terms_of self.old) (view self.old).rate (by_expiry (terms_of self.old) (view self.old) price.number) (roll (view self.old))).rows page.old }
+        ensures sums { result ≡ (page_of (terms_of self.old) (view self.old).rate (by_expiry (terms_of self.old) (view self.old) price.number) (roll (view self.old))).totals }
     {
         let rate = Rate::new(u64::from(self.rate)).unwrap();
         let owed = self.owed(Settling::Expiry, price);

@@ -25,7 +25,7 @@ impl Ledger {
     // What each account is owed at a price, in number order.
     pub(crate) fn owed(&self, settling: Settling, price: Price) -> [Owed; 64]
         ensures long { length result ≡ 64 }
-        ensures owed { take self.now.registered result ≡ owed_by self.now settling price.cents }
+        ensures owed { take self.now.registered result ≡ owed_by self.now settling price.number }
         ensures within { AllByRecursion OwedIn (take self.now.registered result) }
     {
         owed_to_all(
@@ -43,8 +43,8 @@ impl Ledger {
         requires beside { length owed.now ≡ length (view self.now).accounts }
         requires owed { AllByRecursion OwedIn owed.now }
         requires page { length (view self.now).accounts ≤ length page.old }
-        ensures page { page.new ≡ over (zip2 (row_to self.now.terms.currency rate.millionths) (view self.now).accounts owed.now) page.old }
-        ensures sums { result ≡ sums_of (lines_to self.now.terms.currency rate.millionths (view self.now).accounts owed.now) }
+        ensures page { page.new ≡ over (zip2 (row_to self.now.terms.currency rate.number) (view self.now).accounts owed.now) page.old }
+        ensures sums { result ≡ sums_of (lines_to self.now.terms.currency rate.number (view self.now).accounts owed.now) }
     {
         pay_page(self.accounts(), owed, self.terms.currency, rate, page)
     }

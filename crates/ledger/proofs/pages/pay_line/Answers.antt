@@ -7,7 +7,7 @@ use Rattle.ledger.proofs.pages.pay_line.Goals as goal
 pub returns : goal.returns
 returns c =
     let amount = c.unwrap-amount.result in
-    let rate = c.args.rate.millionths in
+    let rate = c.args.rate.number in
     let is : amount.cents ≡ c.args.cents = of_some c.new.result amount _ _ c.new.ensures.some c.unwrap-amount.ensures ∙ to_z-of_z w64 c.args.cents c.ranges.cents in
     record {
       value = c.pay.ensures.value ∙ ap (λ (z : ℤ). payment_of z c.args.currency c.args.payee rate) is;

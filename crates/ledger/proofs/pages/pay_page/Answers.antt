@@ -32,7 +32,7 @@ loop-i-preserved c =
     let xs = c.args.accounts.now in
     let os = c.args.owed.now in
     let currency = c.args.currency in
-    let rate = c.args.rate.millionths in
+    let rate = c.args.rate.number in
     let a = get_or xs i nobody in
     let o = get_or os i nothing in
     let in_range = All-get_or OwedIn os i nothing (omega arith) c.requires.owed in
@@ -50,6 +50,6 @@ loop-i-preserved c =
 
 pub returns : goal.returns
 returns c = record {
-  page = write_all (row_to c.args.currency c.args.rate.millionths) c.args.accounts.now c.args.owed.now c.args.page.now c.loop-i.page c.loop-i.i (omega arith) c.requires.beside c.loop-i.invariant.0;
-  sums = lines_all c.args.currency c.args.rate.millionths c.args.accounts.now c.args.owed.now c.loop-i.i c.loop-i.sums c.loop-i-test.false c.loop-i.invariant.1;
+  page = write_all (row_to c.args.currency c.args.rate.number) c.args.accounts.now c.args.owed.now c.args.page.now c.loop-i.page c.loop-i.i (omega arith) c.requires.beside c.loop-i.invariant.0;
+  sums = lines_all c.args.currency c.args.rate.number c.args.accounts.now c.args.owed.now c.loop-i.i c.loop-i.sums c.loop-i-test.false c.loop-i.invariant.1;
 }

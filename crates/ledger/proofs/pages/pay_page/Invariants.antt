@@ -7,6 +7,6 @@ use Rattle.ledger.proofs.pages.pay_page.Given as goal
 -- the rows written so far, the lines still to come, and that the sums are not large
 abbrev pub invariant-loop-i : goal.invariant-loop-i
 invariant-loop-i l =
-    (l.page ≡ zip2 (row_to l.currency l.rate.millionths) (take l.i l.accounts) (take l.i l.owed) ++ drop l.i l.initial.page)
-    × (fold adding l.sums (lines_to l.currency l.rate.millionths (drop l.i l.accounts) (drop l.i l.owed)) ≡ fold adding no_sums (lines_to l.currency l.rate.millionths l.accounts l.owed))
+    (l.page ≡ zip2 (row_to l.currency l.rate.number) (take l.i l.accounts) (take l.i l.owed) ++ drop l.i l.initial.page)
+    × (fold adding l.sums (lines_to l.currency l.rate.number (drop l.i l.accounts) (drop l.i l.owed)) ≡ fold adding no_sums (lines_to l.currency l.rate.number l.accounts l.owed))
     × SumsIn (2 * l.i) l.sums

@@ -9,7 +9,7 @@ use Rattle.money.proofs.payment.pay.Goals as goal
 
 pub returns-then-eq : goal.returns-then-eq
 returns-then-eq c =
-    let some : 0 < c.args.rate.millionths = omega arith in
+    let some : 0 < c.args.rate.number = omega arith in
     let same : c.args.contract ≡ c.paid_in-currency.result = search rules in
     let h = unconverted _ _ _ _ some (same ∙ c.paid_in-currency.ensures) (omega (arith, ints)) (omega (arith, ints)) c.is_converted-converted.ensures in
     record { pays = h; value = payment_unique _ _ _ _ _ some h }
@@ -38,7 +38,7 @@ overflow_sub-result c =
 
 pub returns : goal.returns
 returns c =
-    let some : 0 < c.args.rate.millionths = omega arith in
+    let some : 0 < c.args.rate.number = omega arith in
     let half = within _ _ _ (omega arith) c.nearest-paid.ensures in
     let read : to_z w64 (of_z w64 c.cents-cents.result) ≡ c.args.amount.cents = omega (arith, ints) in
     let paid : to_z w64 (of_z w64 c.nearest-paid.result) ≡ c.nearest-paid.result = omega (arith, ints) in
@@ -47,7 +47,7 @@ returns c =
     let differ : c.args.contract ≢ c.paid_in-currency.result = search rules in
     let h = converts _ _ _ _ some (λ s. differ (s ∙ sym c.paid_in-currency.ensures)) c.nearest-paid.ensures
     (owes ∙ simp (read, c.cent_weight.ensures.value) at c.weighed-owed.ensures)
-    (c.cent_weight-unit.ensures.value ∙ ap (λ (x : Currency). weight x c.args.rate.millionths) c.paid_in-currency.ensures)
+    (c.cent_weight-unit.ensures.value ∙ ap (λ (x : Currency). weight x c.args.rate.number) c.paid_in-currency.ensures)
     (omega (arith, ints))
     (omega (arith, ints))
     c.is_converted-converted.ensures in

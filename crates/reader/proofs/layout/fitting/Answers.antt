@@ -1,16 +1,19 @@
-use Rattle.std.proofs.Common.{drop, arith, length-drop, rules}
-use Rattle.std.proofs.lemmas.List.Sums.{common_prefix_len-le, common_prefix_len-drop_yes, common_prefix_len-drop_no}
+use Rattle.std.proofs.Common.{ℕ, ◌∙◌, rules}
+use borrow.Author.Tests.{tests}
+use Rattle.std.specs.List.{zip}
+use Rattle.std.proofs.lemmas.Iterator.{YieldsList-from_slice, YieldsList-from_zip}
+use Rattle.std.proofs.lemmas.Iterator.Consumers.{count_from_yields_List, YieldsList-at}
+use Rattle.std.proofs.lemmas.Iterator.Search.{YieldsList-from_take_while}
+use Rattle.std.proofs.lemmas.List.Folds.{length-prefix_len}
+use Rattle.reader.specs.declared.layout.Class.{Class}
 use Rattle.reader.specs.Layouts.{accepts}
+use Rattle.reader.proofs.Askings.{fitting_pairs}
 use Rattle.reader.proofs.layout.fitting.Goals as goal
 
-pub loop-n-preserved : goal.loop-n-preserved
-loop-n-preserved c = search (rules, common_prefix_len-drop_yes)
-
-pub returns-else-accepts : goal.returns-else-accepts
-returns-else-accepts c = search (rules, common_prefix_len-drop_no)
-
-pub returns-else-n-bytes : goal.returns-else-n-bytes
-returns-else-n-bytes c = omega (arith, c.loop-n.invariant, (common_prefix_len-le accepts (drop c.loop-n.n c.args.classes.now) (drop c.loop-n.n c.args.bytes.now)).1, length-drop c.loop-n.n c.args.bytes.now)
-
-pub returns-after-loop-n : goal.returns-after-loop-n
-returns-after-loop-n c = omega (arith, c.loop-n.invariant, (common_prefix_len-le accepts (drop c.loop-n.n c.args.classes.now) (drop c.loop-n.n c.args.bytes.now)).0, length-drop c.loop-n.n c.args.classes.now)
+pub returns : goal.returns
+returns c =
+    let classes = c.args.classes.now in
+    let bytes = c.args.bytes.now in
+    let fits = λ (p : Class × ℕ). accepts p.0 p.1 in
+    let pairs = YieldsList-at c.take_while.ensures.source (YieldsList-from_zip (YieldsList-at c.zip.ensures.first (YieldsList-from_slice classes (cc))) (YieldsList-from_slice bytes (cc))) in
+    record { value = count_from_yields_List c.take_while.result _ c.count.ensures.ran (YieldsList-from_take_while _ fits pairs c.take_while.ensures.closure c.take_while.ensures.done (λ x b q k. search (rules, tests))) ∙ (length-prefix_len fits (zip classes bytes) ∙ fitting_pairs classes bytes) }

@@ -31,7 +31,7 @@ pay-sums-requires c =
     let owed = c.owed-owed.ensures in
     let cut = front l.registered c.owed-owed.result in
     record {
-      beside = owed_many l Marking c.unwrap-price.result.cents (cut ∙ owed.owed) ∙ sym (registered_is l);
+      beside = owed_many l Marking c.unwrap-price.result.number (cut ∙ owed.owed) ∙ sym (registered_is l);
       owed = subst (AllByRecursion OwedIn) (sym cut) owed.within;
       page = (marking_met l c.args.marking _ c.requires).room;
     }
@@ -41,7 +41,7 @@ settle_accounts-requires c =
     let l = c.args.self.now in
     let owed = c.owed-owed.ensures in
     let cut = front l.registered c.owed-owed.result in
-    let many = owed_many l Marking c.unwrap-price.result.cents (cut ∙ owed.owed) in
+    let many = owed_many l Marking c.unwrap-price.result.number (cut ∙ owed.owed) in
     record {
       few = omega (arith, many, l.tables.0.0, l.tables.0.1);
       accounts = subst (λ (n : ℕ). AllByRecursion AccountIn (take n l.accounts)) (sym many) (accounts_in l);
@@ -82,8 +82,8 @@ returns c =
     let rate = of_some c.new-2.result c.unwrap-rate.result _ _ c.new-2.ensures.some c.unwrap-rate.ensures in
     let left = marked_view l m c.owed-owed.result c.turn_lots.new.lots c.turn_lots.new.used price c.owed-owed.ensures.owed c.settle_accounts.ensures c.turn_lots.ensures.lots c.cents-self.ensures.value (c.millionths-self.ensures.value ∙ rate) in
     let owed = front l.registered c.owed-owed.result ∙ c.owed-owed.ensures.owed in
-    let p = c.unwrap-price.result.cents in
-    let r = c.unwrap-rate.result.millionths in
+    let p = c.unwrap-price.result.number in
+    let r = c.unwrap-rate.result.number in
     let paid = λ (i j : ℕ). page (terms_of l) j (by_marking (terms_of l) (view l) i) (roll (view l)) in
     record {
       view = left;

@@ -26,7 +26,7 @@ returns c =
     let l = c.args.self.now in
     let rows = length c.args.page.now in
     let there = c.unwrap.ensures in
-    let e = expiring (Some c.unwrap.result.cents) rows in
+    let e = expiring (Some c.unwrap.result.number) rows in
     let same = ap (λ o. expiring (cents_of o) rows) (sym there) in
     let none : verdict (terms_of l) (view l) e ≡ None = ap (verdict (terms_of l) (view l)) same ∙ passed _ c.in_ok-expiry_verdict.ensures in
     record {

@@ -20,7 +20,7 @@ use Rattle.ledger.proofs.Standing.{accounts_in}
 use Rattle.ledger.proofs.state.Ledger.expire_at.Goals as goal
 
 pub unwrap-rate-requires : goal.unwrap-rate-requires
-unwrap-rate-requires c = let l = c.args.self.now in c.new.ensures.test ∙ ap is_rate c.from.ensures ∙ rate_is l (expiry_met l c.args.price.cents _ c.requires).over_last
+unwrap-rate-requires c = let l = c.args.self.now in c.new.ensures.test ∙ ap is_rate c.from.ensures ∙ rate_is l (expiry_met l c.args.price.number _ c.requires).over_last
 
 pub pay-sums-requires : goal.pay-sums-requires
 pay-sums-requires c =
@@ -28,9 +28,9 @@ pay-sums-requires c =
     let owed = c.owed-owed.ensures in
     let cut = front l.registered c.owed-owed.result in
     record {
-      beside = owed_many l Expiry c.args.price.cents (cut ∙ owed.owed) ∙ sym (registered_is l);
+      beside = owed_many l Expiry c.args.price.number (cut ∙ owed.owed) ∙ sym (registered_is l);
       owed = subst (AllByRecursion OwedIn) (sym cut) owed.within;
-      page = (expiry_met l c.args.price.cents _ c.requires).room;
+      page = (expiry_met l c.args.price.number _ c.requires).room;
     }
 
 pub settle_accounts-requires : goal.settle_accounts-requires
@@ -38,7 +38,7 @@ settle_accounts-requires c =
     let l = c.args.self.now in
     let owed = c.owed-owed.ensures in
     let cut = front l.registered c.owed-owed.result in
-    let many = owed_many l Expiry c.args.price.cents (cut ∙ owed.owed) in
+    let many = owed_many l Expiry c.args.price.number (cut ∙ owed.owed) in
     record {
       few = omega (arith, many, l.tables.0.0, l.tables.0.1);
       accounts = subst (λ (n : ℕ). AllByRecursion AccountIn (take n l.accounts)) (sym many) (accounts_in l);
@@ -49,7 +49,7 @@ pub invariant_of-self : goal.invariant_of-self
 unfolding done
 invariant_of-self c =
     let l = c.args.self.now in
-    let p = c.args.price.cents in
+    let p = c.args.price.number in
     let left = expired_view l p c.owed-owed.result l.lots c.owed-owed.ensures.owed c.settle_accounts.ensures c.clear.ensures.after in record {
       tables = ((omega (arith, l.tables.0.0), l.tables.0.1), l.tables.1, (l.tables.2.0, omega (arith, c.clear.ensures.after)), l.tables.3);
       reached = ∥∥₁_map l.reached (λ (x : Reached (terms_of l) (view l)). subst (λ (v : View). Reached (terms_of l) v) (sym left) (reach (terms_of l) (view l) (expiring (Some p) (length c.args.page.now)) (price_is p c.args.price.within) c.requires x));
@@ -58,9 +58,9 @@ invariant_of-self c =
 pub returns : goal.returns
 returns c =
     let l = c.args.self.now in
-    let p = c.args.price.cents in
+    let p = c.args.price.number in
     let owed = front l.registered c.owed-owed.result ∙ c.owed-owed.ensures.owed in
-    let r = c.unwrap-rate.result.millionths in
+    let r = c.unwrap-rate.result.number in
     let rate : r ≡ l.rate = of_some c.new.result c.unwrap-rate.result _ _ c.new.ensures.some c.unwrap-rate.ensures ∙ c.from.ensures in
     let paid = λ (j : ℕ). page (terms_of l) j (by_expiry (terms_of l) (view l) p) (roll (view l)) in
     record {

@@ -31,9 +31,9 @@ owed_to_all-requires c =
 pub returns : goal.returns
 returns c =
     let l = c.args.self.now in
-    let is = owed_is l c.args.settling c.args.price.cents c.owed_to_all.result c.accounts.ensures c.sheet.ensures c.from.ensures (c.from-2.ensures ∙ c.cents.ensures.value) c.owed_to_all.ensures.owed in
+    let is = owed_is l c.args.settling c.args.price.number c.owed_to_all.result c.accounts.ensures c.sheet.ensures c.from.ensures (c.from-2.ensures ∙ c.cents.ensures.value) c.owed_to_all.ensures.owed in
     record {
       long = c.owed_to_all.ensures.long;
       owed = is;
-      within = subst (AllByRecursion OwedIn) (sym is) (owed_fits l c.args.settling c.args.price.cents (price_is _ c.args.price.within));
+      within = subst (AllByRecursion OwedIn) (sym is) (owed_fits l c.args.settling c.args.price.number (price_is _ c.args.price.within));
     }

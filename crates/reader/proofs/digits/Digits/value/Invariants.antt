@@ -1,8 +1,10 @@
-use Rattle.std.proofs.Common.{◌≡◌, ◌^◌, ◌<◌, drop}
-use Rattle.std.specs.Str.Parse.{digits_value, digits_value_after}
-use Rattle.reader.specs.Fields.{all_digits}
+use Rattle.std.proofs.Common.{◌≡◌, take}
+use Rattle.std.specs.Str.Parse.{AllDigits, digits_value}
 use Rattle.reader.proofs.digits.Digits.value.Given as goal
 
--- the digits so far are read, and those that are left decide
+-- the digits so far are read
 abbrev pub invariant-loop-b : goal.invariant-loop-b
-invariant-loop-b l = (all_digits l.self.bytes.now ≡ all_digits (drop l.b-index l.self.bytes.now)) × (digits_value 10 l.self.bytes.now ≡ digits_value_after 10 l.n (drop l.b-index l.self.bytes.now)) × (l.n < 10 ^ l.b-index)
+invariant-loop-b l = record {
+  digits : AllDigits 10 (take l.b-index l.self.bytes.now);
+  value : l.n ≡ digits_value 10 (take l.b-index l.self.bytes.now);
+}

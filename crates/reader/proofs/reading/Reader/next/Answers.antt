@@ -10,6 +10,6 @@ pub returns : goal.returns
 returns c =
     let bound = c.line_end-end.ensures.bound in
     record {
-      came = stepped _ _ _ _ _ _ _ _ c.line_end-end.ensures.first bound.0 bound.1 c.read_line.ensures.value c.read_line.ensures.starts c.read_line.ensures.whole (omega arith) (omega arith);
+      came = stepped _ _ _ _ _ _ _ _ c.line_end-end.ensures.first bound.0 bound.1 c.read_line.ensures.value c.read_line.ensures.starts (omega arith) (omega arith);
       same = refl;
     }
