@@ -16,25 +16,28 @@ use tally::refusal::Refusal;
 use tally::sessions::Sessions;
 
 // A book to be built: its contract and its sessions.
-#[derive(Clone, Copy)]
+#[derive(Clone, Copy, Debug, PartialEq, Eq)]
 pub struct Opening {
     pub ticker: Ticker,
     pub sessions: Sessions,
 }
 
 // The terms that the book would be built on.
-fn book_terms(opening: Opening) -> BookTerms
-    ensures value { terms_in result ≡ terms_for opening }
-{
-    let terms = opening.ticker.terms();
-    BookTerms {
-        size: terms.size(),
-        currency: terms.currency(),
-        tick: terms.tick(),
-        delivers: matches!(opening.ticker.ending(), Ending::Delivery),
-        last: opening.sessions.last,
-        opens: opening.sessions.opens,
-        closes: opening.sessions.closes,
+impl From<Opening> for BookTerms {
+    ghost from_gives = { λ opening terms. terms_in terms ≡ terms_for opening };
+
+    fn from(opening: Opening) -> BookTerms {
+        let Opening { ticker, sessions } = opening;
+        let terms = ticker.terms();
+        BookTerms {
+            size: terms.size(),
+            currency: terms.currency(),
+            tick: terms.tick(),
+            delivers: ticker.ending() == Ending::Delivery,
+            last: sessions.last,
+            opens: sessions.opens,
+            closes: sessions.closes,
+        }
     }
 }
 
@@ -59,7 +62,7 @@ pub fn opened_by(came: Result<Record, ReadFault>) -> Result<Option<Opening>, Fau
                     closes: u64::from(closes.value()),
                 },
             };
-            if !is_buildable(&book_terms(opening)) {
+            if !is_buildable(&BookTerms::from(opening)) {
                 return Err(Fault::Book(Refusal::Unbuildable));
             }
             Ok(Some(opening))
