@@ -2,13 +2,13 @@
 #![tactic(auto)]
 
 mod calls;
-mod faults;
+pub mod faults;
 mod gathering;
-mod openings;
-mod place;
-mod printed;
-mod records;
+pub mod openings;
+pub mod place;
+pub mod printed;
+pub mod records;
 pub mod run;
 mod telling;
-mod waiting;
+pub mod waiting;
 pub mod whole;

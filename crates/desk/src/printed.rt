@@ -24,7 +24,7 @@ pub fn put_refusal(out: &mut Writer, place: Place, fault: Fault) -> Result<(), F
 
 // Writes the line of a designation.
 #[tactic(auto, unfolding(crate::specs::Lines::designation_line))]
-pub fn put_designation(out: &mut Writer, designation: Designation) -> Result<(), Full>
+pub(crate) fn put_designation(out: &mut Writer, designation: Designation) -> Result<(), Full>
     ensures { Writes out.old (designation_line designation) out.new result }
 {
     let fields = [
@@ -66,7 +66,12 @@ fn put_totals(out: &mut Writer, session: u64, sums: Sums) -> Result<(), Full>
 }
 
 // Writes a page: a line for each account, in number order, and what the page comes to.
-pub fn put_page(out: &mut Writer, session: u64, rows: &[PageRow], sums: Sums) -> Result<(), Full>
+pub(crate) fn put_page(
+    out: &mut Writer,
+    session: u64,
+    rows: &[PageRow],
+    sums: Sums,
+) -> Result<(), Full>
     ensures { Writes out.old (page_text session rows.now sums) out.new result }
 {
     for (i, row) in rows.iter().enumerate() {

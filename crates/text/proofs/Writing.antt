@@ -43,6 +43,10 @@ module _ {a b : Writer} {s : List ℕ} (first : Wrote a s b) where
   writes_then c t (Err full) h = overflows_then h
   writes_then c t (Ok done) h = wrote_then h
 
+-- where the front of a text does not fit, the whole does not
+pub overflows_front : {w : Writer} {s : List ℕ} (t : List ℕ) → Overflows w s → Overflows w (s ++ t)
+overflows_front {w} {s} t h = record { long = omega (arith, h.long, length-append s t) }
+
 -- nothing of a whole text yet
 pub begun : (w : Writer) (whole : List ℕ) → Progress w whole w whole
 begun w whole = record { text = []; wrote = wrote_none w; joins = refl }
