@@ -29,10 +29,10 @@ pub record Follows {K : Type 0} (m : Meaning K) (rule : Rule) (price : List Quot
   pub pricing : (qs : List Quotation) → m.final (state m k qs) ≡ price (taken rule done qs)
 
 module _ {K : Type 0} (m : Meaning K) (rule : Rule) (price : List Quotation → Option ℕ) where
-  replies_so : (k : K) (done : List Quotation) (q : Quotation) → Follows m rule price k done → m.reply k q ≡ rule done q
+  pub replies_so : (k : K) (done : List Quotation) (q : Quotation) → Follows m rule price k done → m.reply k q ≡ rule done q
   replies_so k done q h = let e = h.replying (q ∷ []) in cc
 
-  follows_next : (k : K) (done : List Quotation) (q : Quotation) → Follows m rule price k done → Follows m rule price (m.after k q) (with_next rule done q)
+  pub follows_next : (k : K) (done : List Quotation) (q : Quotation) → Follows m rule price k done → Follows m rule price (m.after k q) (with_next rule done q)
   follows_next k done q h = record { replying = λ qs. let e = h.replying (q ∷ qs) in cc; pricing = λ qs. h.pricing (q ∷ qs) }
 
   event_so : (k : K) (done : List Quotation) (x : Call) (room : ℕ) → Follows m rule price k done → event_by (course m) k x room ≡ event_by (by_rule rule price) done x room

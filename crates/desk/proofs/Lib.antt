@@ -2,7 +2,6 @@ pub mod Rows
 pub mod Gathers
 pub mod Tops
 pub mod Tales
-pub mod Growing
 pub mod Steps
 pub mod Rooms
 pub mod Sharings

@@ -1,6 +1,5 @@
 -- The run of a book over a kind, by the course of the kind's quotations.
-use Rattle.std.proofs.Common.{◌≡◌, ℕ, ◌+◌, ◌-◌, ◌≤◌, true, List, [], ◌∷◌, map, length, take, Some, None, Option, ap, ◌∙◌, arith}
-use native.Mathlib.Nat.{sub-zero}
+use Rattle.std.proofs.Common.{◌≡◌, ℕ, ◌+◌, ◌≤◌, true, List, [], ◌∷◌, map, length, take, Some, None, Option, ap, ◌∙◌, arith}
 use Rattle.std.proofs.lemmas.List.{take_all}
 use Rattle.kinds.specs.Meaning.{Meaning}
 use Rattle.reader.specs.Readings.{reading}
@@ -43,10 +42,3 @@ run_told m k o records place ls calls log₀ log₁ pages₀ pages₁ s n rows t
     let answers = ran.logged ∙ same.answers ∙ ap (map (λ (x : Entry). x.answer)) entries in
     let pages = ran.paged ∙ same.rows ∙ ap rows_in entries in
     λ i. telling (starting records place (answers i) (pages i)) ls
-
--- slices from the first element on
-pub told_from_zero : (records place n rows : ℕ) (log : List Answer) (pages : List PageRow) (ls : List (List ℕ)) → telling (starting records place (take (n - 0) log) (take (rows - 0) pages)) ls ≡ telling (starting records place (take n log) (take rows pages)) ls
-told_from_zero records place n rows log pages ls =
-    let a = sub-zero n in
-    let b = sub-zero rows in
-    λ i. telling (starting records place (take (a i) log) (take (b i) pages)) ls

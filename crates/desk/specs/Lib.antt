@@ -2,6 +2,8 @@ pub mod Refusals
 pub mod Calls
 pub mod Openings
 pub mod Lines
+pub mod Places
+pub mod Waiting
 pub mod Courses
 pub mod Endings
 pub mod Told

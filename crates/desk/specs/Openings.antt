@@ -30,6 +30,10 @@ terms_for o = record {
   closes = o.sessions.closes;
 }
 
+-- its terms can be had
+abbrev pub IsBuildable : Opening → Type 0
+IsBuildable o = is_buildable (terms_for o) ≡ true
+
 -- a book is opened where it can be built
 abbrev pub opened_if : Opening → Result (Option Opening) Fault
 opened_if o = cond (is_buildable (terms_for o)) (Ok (Some o)) (Err (Book Unbuildable))
@@ -49,12 +53,3 @@ opening_of expiry = Ok None
 abbrev pub opening_to : Line → Result (Option Opening) Fault
 opening_to (Ok entry) = opening_of entry
 opening_to (Err fault) = Err (Read fault)
-
--- a book that is opened can be built
-abbrev pub Built : Option Opening → Type 0
-Built None = Unit {0}
-Built (Some o) = is_buildable (terms_for o) ≡ true
-
-abbrev pub Builds : Result (Option Opening) Fault → Type 0
-Builds (Ok o) = Built o
-Builds (Err fault) = Unit {0}

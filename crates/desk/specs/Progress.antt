@@ -1,37 +1,26 @@
--- How far a text has been put.
-use Rattle.std.specs.Prelude.{◌≡◌, ℕ, ◌+◌, ◌<◌, ◌≤◌, List, [], ◌++◌, length, drop, Some, None, Option}
-use Rattle.reader.specs.Cuts.{lines}
+-- How far a text has been told.
+use Rattle.std.specs.Prelude.{ℕ, ◌<◌, ◌≤◌, List, length, Some, None, Ok, Err, Option, Result}
+use Rattle.reader.specs.declared.reading.Reader.{Reader}
 use Rattle.text.specs.Puts.{Put}
+use Rattle.text.specs.Writers.{Overflows, Progress}
+use Rattle.text.specs.declared.writer.Full.{Full}
+use Rattle.text.specs.declared.writer.Writer.{Writer}
 use Rattle.desk.specs.declared.openings.Opening.{Opening}
-use Rattle.desk.specs.declared.run.Waited.{Waited}
-use Rattle.desk.specs.Openings.{Built}
-use Rattle.desk.specs.Report.{opened_text}
+use Rattle.desk.specs.Places.{lines_left}
+use Rattle.desk.specs.Waiting.{Sequel, to_come, waiting}
 
--- of a whole text to be put at a place so much has been put, and the rest is still to come
-pub record Progress (was : List ℕ) (at : ℕ) (whole out : List ℕ) (end : ℕ) (rest : List ℕ) : Type 0 where
-  pub text : List ℕ
-  pub put : Put was at text out end
-  pub joins : text ++ rest ≡ whole
+-- what is told over the lines that a reader has left, before a book is open
+abbrev pub waiting_at : Sequel → Reader → List ℕ
+waiting_at s r = waiting s r.number r.at (lines_left r)
 
--- what is still to come when waiting is over: the run of the book that was opened, or nothing at the input's end
-abbrev pub to_come : Option Opening → ℕ → ℕ → List (List ℕ) → List ℕ
-to_come None records place rest = []
-to_come (Some opening) records place rest = opened_text opening records place rest
+-- and what is still to be told when waiting is over
+abbrev pub to_come_at : Sequel → Option Opening → Reader → List ℕ
+to_come_at s opening r = to_come s opening r.number r.at (lines_left r)
 
--- one record before a book is open: its text is put, and the opening is that of the book that it opens; or the text does not fit
-abbrev pub WaitsOne : List ℕ → ℕ → List ℕ → Option Opening → List ℕ → Option Waited → Type 0
-WaitsOne was at text opening out None = length was < at + length text
-WaitsOne was at text opening out (Some waited) = Put was at text out waited.end × (waited.opening ≡ opening)
-
--- a book that was opened can be built
-abbrev pub Opens : Option Waited → Type 0
-Opens None = Unit {0}
-Opens (Some waited) = Built waited.opening
-
--- the whole text is put up to where waiting is over, with so many records read of the input up to a place; or it does not fit
-abbrev pub Waits : List ℕ → List ℕ → List ℕ → ℕ → ℕ → List ℕ → Option Waited → Type 0
-Waits was whole input records place out None = length was < length whole
-Waits was whole input records place out (Some waited) = Progress was 0 whole out waited.end (to_come waited.opening records place (lines (drop place input)))
+-- the whole text is told up to where waiting is over; or it does not fit
+abbrev pub Waits : Sequel → Writer → Reader → Writer → Reader → Result (Option Opening) Full → Type 0
+Waits s old from new reader (Err full) = Overflows old (waiting_at s from)
+Waits s old from new reader (Ok opening) = Progress old (waiting_at s from) new (to_come_at s opening reader)
 
 -- the text of an input is put from the top, and the answer is where it ends;
 -- nothing is answered only where the slice is too short for it, or there are not places for a call and an answer to each record,

@@ -1,5 +1,5 @@
 -- The report of an input: the text of each record in turn.
-use Rattle.std.specs.Prelude.{ℕ, ◌+◌, true, false, List, [], ◌∷◌, ◌++◌, map, length, Some, None, Ok, Err, Option, Result}
+use Rattle.std.specs.Prelude.{ℕ, ◌+◌, true, List, [], ◌∷◌, map, length, Some, None, Option}
 use Rattle.kinds.specs.Tickers.{row}
 use Rattle.reader.specs.Cuts.{lines}
 use Rattle.reader.specs.Readings.{reading}
@@ -8,16 +8,14 @@ use Rattle.tally.specs.Runs.{Entry, log}
 use Rattle.tally.specs.declared.call.Call.{Call}
 use Rattle.tally.specs.declared.call.Call.TheVariants as call
 use Rattle.contract_book.specs.Sendings.{rows_in}
-use Rattle.desk.specs.declared.faults.Fault.{Fault}
 use Rattle.desk.specs.declared.openings.Opening.{Opening}
 use Rattle.desk.specs.Calls.{call_of}
 use Rattle.desk.specs.Courses.{Course}
 use Rattle.desk.specs.Endings.{course_of}
-use Rattle.desk.specs.Lines.{refusal_line}
-use Rattle.desk.specs.Openings.{opening_to, terms_for}
+use Rattle.desk.specs.Openings.{terms_for}
 use Rattle.desk.specs.Told.{starting, telling}
+use Rattle.desk.specs.Waiting.{Sequel, waiting}
 
--- ---- an open book
 abbrev pub with_call : Option Call → List Call → List Call
 with_call None calls = calls
 with_call (Some x) calls = x ∷ calls
@@ -68,29 +66,10 @@ log_text records place entries rest = telling (starting records place (map (λ x
 abbrev pub opened_text : Opening → ℕ → ℕ → List (List ℕ) → List ℕ
 opened_text o records place rest = log_text records place (log_of o place rest) rest
 
--- ---- before a book is open
--- the text of a record: nothing, or the line of its refusal
-abbrev pub record_text : {X : Type 0} → ℕ → ℕ → Result X Fault → List ℕ
-record_text number start (Ok done) = []
-record_text number start (Err fault) = refusal_line number start fault
-
--- the book that a record opens
-abbrev pub opening_in : Result (Option Opening) Fault → Option Opening
-opening_in (Ok opening) = opening
-opening_in (Err fault) = None
-
--- one way on where a book has been opened, and another where it has not
-abbrev pub onward : Option Opening → (Opening → List ℕ) → List ℕ → List ℕ
-onward None opens waits = waits
-onward (Some opening) opens waits = opens opening
-
--- before a book is open: the text of each line in turn, until one opens a book
-unfoldable pub waiting : ℕ → ℕ → List (List ℕ) → List ℕ
-waiting records place [] = []
-waiting records place (line ∷ rest) =
-    record_text (records + 1) place (opening_to (reading false place line))
-    ++ onward (opening_in (opening_to (reading false place line))) (λ o. opened_text o (records + 1) (place + length line) rest) (waiting (records + 1) (place + length line) rest)
+-- behind the refusals before a book is open comes the text of the book, and nothing where none is opened
+abbrev pub sequel : Sequel
+sequel = record { over = λ records. []; opened = opened_text }
 
 -- the report of an input
 abbrev pub report : List ℕ → List ℕ
-report input = waiting 0 0 (lines input)
+report input = waiting sequel 0 0 (lines input)

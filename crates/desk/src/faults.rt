@@ -1,13 +1,13 @@
 // Why a record is refused: it cannot be read, or the book does not take it.
 ghost use Rattle.std.specs.Prelude.{◌≡◌};
-ghost use Rattle.desk.specs.Refusals.{layer_of, number_of, place_of, refusal_layer};
+ghost use Rattle.desk.specs.Refusals.{layer_of, number_of, place_of};
 ghost use Rattle.desk.specs.declared.faults.Fault.TheVariants.{Read, Book};
 
 use reader::fault::ReadFault;
 use tally::refusal::Refusal;
 
 // A fault of a record, with the layer that found it.
-#[derive(Clone, Copy)]
+#[derive(Clone, Copy, Debug, PartialEq, Eq)]
 pub enum Fault {
     Read(ReadFault),
     Book(Refusal),
@@ -22,16 +22,6 @@ const BOOK: u8 = 2;
 // The layer of what a kind asks.
 const KIND: u8 = 3;
 
-// The layer of a book's refusal: the kind's where it is the kind's own.
-fn book_layer(refusal: Refusal) -> u8
-    ensures { result ≡ refusal_layer refusal }
-{
-    match refusal {
-        Refusal::Unquoted(_) => KIND,
-        _ => BOOK,
-    }
-}
-
 impl Fault {
     // The layer that refuses.
     pub fn layer(self) -> u8
@@ -39,7 +29,8 @@ impl Fault {
     {
         match self {
             Fault::Read(_) => READING,
-            Fault::Book(refusal) => book_layer(refusal),
+            Fault::Book(Refusal::Unquoted(_)) => KIND,
+            Fault::Book(_) => BOOK,
         }
     }
 

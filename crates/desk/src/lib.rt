@@ -2,10 +2,13 @@
 #![tactic(auto)]
 
 mod calls;
-mod faults;
+pub mod faults;
 mod gathering;
-mod openings;
-mod printed;
+pub mod openings;
+pub mod place;
+pub mod printed;
+pub mod records;
 pub mod run;
 mod telling;
+pub mod waiting;
 pub mod whole;

@@ -1,18 +1,20 @@
 // The text of a run: each record's fault or answer, in the order of the file.
-ghost use Rattle.std.specs.Prelude.{◌≡◌, ℕ, ◌+◌, ◌^◌, ◌<◌, ◌≤◌, length, take, drop};
-ghost use Rattle.reader.specs.Cuts.{lines};
+ghost use Rattle.std.specs.Prelude.{◌≡◌, ℕ, ◌+◌, ◌^◌, ◌<◌, length, take, drop};
 ghost use Rattle.reader.specs.Saying.{said};
-ghost use Rattle.text.specs.Puts.{Puts};
-ghost use Rattle.desk.specs.Tellers.{stage};
-ghost use Rattle.desk.specs.Told.{after_answer, after_line, after_next, answer_text, line_text, next_text, starting, telling};
+ghost use Rattle.text.specs.Writers.{Writes};
+ghost use Rattle.desk.specs.Places.{lines_left};
+ghost use Rattle.desk.specs.Told.{after_line, after_next, line_text, next_text, starting, telling};
 
 use crate::faults::Fault;
+use crate::place::Place;
 use crate::printed::{put_designation, put_page, put_refusal};
+use crate::records::next_record;
 use reader::fault::ReadFault;
 use reader::reading::Reader;
 use reader::record::Record;
 use tally::call::{Answer, Reply};
 use tally::rows::PageRow;
+use text::writer::{Full, Writer};
 
 // How far the text has come: the sessions closed, the accounts registered, and the answers and page rows still to be told.
 #[derive(Drop)]
@@ -21,110 +23,72 @@ struct Teller<'a> {
     accounts: usize,
     answers: &'a [Answer],
     rows: &'a [PageRow],
+    ghost sessions_fit: { closed + length answers.now < 2 ^ 64 },
+    ghost accounts_fit: { accounts + length answers.now < 2 ^ 64 },
 }
 
-// The rows at the top that so many accounts have, or all where there are fewer.
-fn top(rows: &[PageRow], accounts: usize) -> &[PageRow]
-    ensures { result.now ≡ take accounts rows.now }
+// The rows of a page at the top, one for each account, or all where there are fewer; and those below.
+fn split_page(rows: &[PageRow], accounts: usize) -> (&[PageRow], &[PageRow])
+    ensures page { result.0.now ≡ take accounts rows.now }
+    ensures below { result.1.now ≡ drop accounts rows.now }
 {
-    &rows[0..accounts.min(rows.len())]
-}
-
-// The rows below them.
-fn below(rows: &[PageRow], accounts: usize) -> &[PageRow]
-    ensures { result.now ≡ drop accounts rows.now }
-{
-    &rows[accounts.min(rows.len())..]
+    rows.split_at(accounts.min(rows.len()))
 }
 
 impl Teller<'_> {
-    // Tells what was answered to a record; a page closes a session.
-    fn tell_answer(
-        &mut self,
-        answer: Answer,
-        records: usize,
-        start: usize,
-        out: &mut [u8],
-        at: usize,
-    ) -> Option<usize>
-        requires within { at ≤ length out.old }
-        requires counted { (records + 1 < 2 ^ 64) × (self.old.accounts ≤ records) × (self.old.closed ≤ records) }
-        ensures puts { Puts out.old at (answer_text (stage records start self.old) answer) out.new result }
-        ensures after { (width : ℕ) → stage (records + 1) (start + width) self.new ≡ after_answer (stage records start self.old) width answer self.old.answers.now }
-        ensures counted { (self.new.accounts ≤ records + 1) × (self.new.closed ≤ records + 1) }
+    ghost use Rattle.desk.specs.Tellers.{before, behind};
+
+    // Tells the next answer, to the record at a place; a page closes a session.
+    fn tell_answer(&mut self, place: Place, out: &mut Writer) -> Result<(), Full>
+        ensures puts { Writes out.old (next_text (before place self.old) self.old.answers.now) out.new result }
+        ensures after { (width : ℕ) → behind place width self.new ≡ after_next (before place self.old) width self.old.answers.now }
     {
-        match answer {
-            Err(refusal) => put_refusal(out, at, records + 1, start, Fault::Book(refusal)),
+        let Some((answer, rest)) = self.answers.split_first() else {
+            return Ok(());
+        };
+        self.answers = rest;
+        match *answer {
+            Err(refusal) => put_refusal(out, place, Fault::Book(refusal)),
             Ok(Reply::Numbered(_)) => {
                 self.accounts += 1;
-                Some(at)
+                Ok(())
             }
-            Ok(Reply::Accepted) => Some(at),
-            Ok(Reply::Designated(designation)) => put_designation(out, at, designation),
+            Ok(Reply::Accepted) => Ok(()),
+            Ok(Reply::Designated(designation)) => put_designation(out, designation),
             Ok(Reply::Paid(sums)) => {
-                let session = self.closed + 1;
-                let page = top(self.rows, self.accounts);
-                self.rows = below(self.rows, self.accounts);
-                self.closed = session;
-                put_page(out, at, session, page, sums)
+                self.closed += 1;
+                let (page, below) = split_page(self.rows, self.accounts);
+                self.rows = below;
+                put_page(out, self.closed, page, sums)
             }
         }
-    }
-
-    // Tells the next answer, to a record that was read.
-    fn tell_next(
-        &mut self,
-        records: usize,
-        start: usize,
-        out: &mut [u8],
-        at: usize,
-    ) -> Option<usize>
-        requires within { at ≤ length out.old }
-        requires counted { (records + 1 < 2 ^ 64) × (self.old.accounts ≤ records) × (self.old.closed ≤ records) }
-        ensures puts { Puts out.old at (next_text (stage records start self.old) self.old.answers.now) out.new result }
-        ensures after { (width : ℕ) → stage (records + 1) (start + width) self.new ≡ after_next (stage records start self.old) width self.old.answers.now }
-        ensures counted { (self.new.accounts ≤ records + 1) × (self.new.closed ≤ records + 1) }
-    {
-        if self.answers.len() == 0 {
-            return Some(at);
-        }
-        let answer = self.answers[0];
-        self.answers = &self.answers[1..];
-        self.tell_answer(answer, records, start, out, at)
     }
 
     // Tells a record of an open book: its fault, or what was answered to it.
     fn tell_record(
         &mut self,
+        place: Place,
         came: Result<Record, ReadFault>,
-        records: usize,
-        start: usize,
-        out: &mut [u8],
-        at: usize,
-    ) -> Option<usize>
-        requires within { at ≤ length out.old }
-        requires counted { (records + 1 < 2 ^ 64) × (self.old.accounts ≤ records) × (self.old.closed ≤ records) }
-        ensures puts { Puts out.old at (line_text (stage records start self.old) (said came.entry)) out.new result }
-        ensures after { (width : ℕ) → stage (records + 1) (start + width) self.new ≡ after_line (stage records start self.old) width (said came.entry) }
-        ensures counted { (self.new.accounts ≤ records + 1) × (self.new.closed ≤ records + 1) }
+        out: &mut Writer,
+    ) -> Result<(), Full>
+        ensures puts { Writes out.old (line_text (before place self.old) (said came.entry)) out.new result }
+        ensures after { (width : ℕ) → behind place width self.new ≡ after_line (before place self.old) width (said came.entry) }
     {
         match came {
-            Err(fault) => put_refusal(out, at, records + 1, start, Fault::Read(fault)),
-            Ok(_) => self.tell_next(records, start, out, at),
+            Err(fault) => put_refusal(out, place, Fault::Read(fault)),
+            Ok(_) => self.tell_answer(place, out),
         }
     }
 }
 
 // Writes the text of the records that are left, from the answers and the page rows of their run.
-pub fn tell<'a>(
+pub fn tell(
     mut reader: Reader,
-    answers: &'a [Answer],
-    rows: &'a [PageRow],
-    out: &mut [u8],
-    at: usize,
-) -> Option<usize>
-    requires within { at ≤ length out.old }
-    ensures { Puts out.old at (telling (starting reader.entry.number reader.entry.at answers.now rows.now) (lines (drop reader.entry.at reader.entry.input.now))) out.new result }
+    answers: &[Answer],
+    rows: &[PageRow],
+    out: &mut Writer,
+) -> Result<(), Full>
+    ensures { Writes out.old (telling (starting reader.entry.number reader.entry.at answers.now rows.now) (lines_left reader.entry)) out.new result }
 {
     let mut teller = Teller {
         closed: 0,
@@ -132,13 +96,8 @@ pub fn tell<'a>(
         answers,
         rows,
     };
-    let mut end = at;
-    let mut records = reader.number();
-    let mut start = reader.place();
-    while let Some(came) = reader.next(true) {
-        end = teller.tell_record(came, records, start, out, end)?;
-        records = reader.number();
-        start = reader.place();
+    while let Some((place, came)) = next_record(&mut reader, true) {
+        teller.tell_record(place, came, out)?;
     }
-    Some(end)
+    Ok(())
 }

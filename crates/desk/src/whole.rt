@@ -3,9 +3,11 @@ ghost use Rattle.std.specs.Prelude.{◌≡◌, ◌+◌, ◌*◌, ◌^◌, ◌≤
 ghost use Rattle.desk.specs.Report.{report as report_of};
 ghost use Rattle.desk.specs.declared.whole.Shortage.TheVariants.{Memory};
 
-use crate::run::{PAGE_ROWS, settle};
+use crate::run::{PAGE_ROWS, Tables, settle};
 use reader::whole::count_records;
 use std::alloc::{AllocError, Global};
+use std::error::Error;
+use std::fmt;
 use tally::call::{Answer, Call, Reply};
 use tally::rows::PageRow;
 
@@ -16,7 +18,7 @@ const LINE_ROOM: usize = 64;
 const PAGES_ROOM: usize = 1_102_464;
 
 // Why there is no report.
-#[derive(Clone, Copy)]
+#[derive(Clone, Copy, Debug, PartialEq, Eq)]
 pub enum Shortage {
     // No memory was to be had.
     Memory,
@@ -24,15 +26,16 @@ pub enum Shortage {
     Room,
 }
 
-impl Shortage {
-    // What to tell a person.
-    pub fn message(self) -> &'static str {
+impl fmt::Display for Shortage {
+    fn fmt<W: fmt::Write>(&self, f: &mut fmt::Formatter<W>) -> fmt::Result {
         match self {
-            Shortage::Memory => "out of memory",
-            Shortage::Room => "the report outgrew its room",
+            Shortage::Memory => write!(f, "out of memory"),
+            Shortage::Room => write!(f, "the report outgrew its room"),
         }
     }
 }
+
+impl Error for Shortage {}
 
 impl From<AllocError> for Shortage {
     ghost from_gives = { λ _ r. r ≡ Memory };
@@ -42,26 +45,18 @@ impl From<AllocError> for Shortage {
     }
 }
 
-// How many bytes the report of so many records can take: each record prints one line at most, but for those that print a page.
-fn room(records: usize) -> Option<usize>
-    ensures { MatchOption result (2 ^ 64 ≤ 64 * records + 1102464) (λ n. n ≡ 64 * records + 1102464) }
+// How many bytes a report can take with a line at most for each record, and so many bytes besides.
+pub fn room(records: usize, besides: usize) -> Option<usize>
+    ensures { MatchOption result (2 ^ 64 ≤ 64 * records + besides) (λ n. n ≡ 64 * records + besides) }
 {
-    records.checked_mul(LINE_ROOM)?.checked_add(PAGES_ROOM)
+    records.checked_mul(LINE_ROOM)?.checked_add(besides)
 }
 
 // Writes the report into text that has room for it, and cuts it to its length.
-fn fill(
-    input: &[u8],
-    calls: &mut [Call],
-    log: &mut [Answer],
-    pages: &mut [PageRow],
-    mut text: Vec<u8>,
-) -> Result<Vec<u8>, Shortage>
+fn fill(input: &[u8], tables: Tables, mut text: Vec<u8>) -> Result<Vec<u8>, Shortage>
     ensures { IfOk result (λ v. v.items ≡ report_of input.now) }
 {
-    let Some(end) = settle(input, calls, log, pages, &mut text) else {
-        return Err(Shortage::Room);
-    };
+    let end = settle(input, tables, &mut text).ok_or(Shortage::Room)?;
     text.truncate(end);
     Ok(text)
 }
@@ -71,16 +66,15 @@ pub fn report(heap: Global, input: &[u8]) -> Result<Vec<u8>, Shortage>
     ensures { IfOk result (λ v. v.items ≡ report_of input.now) }
 {
     let records = count_records(input);
-    let Some(room) = room(records) else {
-        return Err(Shortage::Room);
-    };
+    let room = room(records, PAGES_ROOM).ok_or(Shortage::Room)?;
     let text = vec![in heap; 0u8; room]?;
     let mut calls = vec![in heap; Call::Designate; records]?;
     let mut log = vec![in heap; Ok(Reply::Accepted); records]?;
-    let row = PageRow {
-        day_trade: 0,
-        margin: 0,
+    let mut pages = vec![in heap; PageRow::default(); PAGE_ROWS]?;
+    let tables = Tables {
+        calls: &mut calls,
+        log: &mut log,
+        pages: &mut pages,
     };
-    let mut pages = vec![in heap; row; PAGE_ROWS]?;
-    fill(input, &mut calls, &mut log, &mut pages, text)
+    fill(input, tables, text)
 }

@@ -1,4 +1,3 @@
-mod Growing
+mod Closing
 mod Steps
-mod Ending
 mod Following

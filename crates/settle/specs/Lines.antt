@@ -1,12 +1,5 @@
--- The lines of a report.
+-- The last line of a report.
 use Rattle.std.specs.Prelude.{ℕ, List, ◌++◌, Some, None, codes, decimal, Option}
-use Rattle.settle.specs.declared.faults.Refusal.{Refusal}
-use Rattle.settle.specs.Refusals.{refusal_layer, refusal_number, refusal_place}
-
--- a refused record: its number, then the layer, the number and the place of the refusal
-unfoldable pub refusal_line : ℕ → ℕ → Refusal → List ℕ
-refusal_line number start refusal =
-    codes "R " ++ (decimal number ++ (codes " " ++ (decimal (refusal_layer refusal) ++ (codes " " ++ (decimal (refusal_number refusal) ++ (codes " " ++ (decimal (refusal_place start refusal) ++ codes "\n")))))))
 
 -- the price that the contract ends at
 abbrev pub final_text : Option ℕ → List ℕ

@@ -22,41 +22,31 @@ standard input where none is named, and prints what each account is paid.
 
 const VERSION: &str = "settle 1.0.0";
 
-// The bytes of a file.
-fn read_file(rt: &HostRuntime, path: &str) -> anyhow::Result<Vec<u8>> {
-    match fs::read(rt, path) {
-        Ok(input) => Ok(input),
-        Err(e) => Err(anyhow!(format!(in rt.alloc(); "cannot read {path}: {e}")?)),
-    }
-}
-
-// The bytes of standard input.
-fn read_stdin(rt: &HostRuntime) -> anyhow::Result<Vec<u8>> {
-    let mut input = Vec::new(rt.alloc());
-    rt.stdin().read_to_end(&mut input)?;
-    Ok(input)
+// The bytes of a file, or of standard input where none is named.
+// It stands in both programs, since a library's function owes a contract and none can say what a file gives.
+fn read_input(rt: &HostRuntime, path: Option<&str>) -> anyhow::Result<Vec<u8>> {
+    let Some(path) = path else {
+        let mut input = Vec::new(rt.alloc());
+        rt.stdin().read_to_end(&mut input)?;
+        return Ok(input);
+    };
+    fs::read(rt, path).map_err(|e| anyhow!("cannot read {path}: {e}"))
 }
 
 // Settles an input and writes the report. Nothing is written unless all of it is there.
-fn settle(rt: &HostRuntime, input: &[u8]) -> anyhow::Result<()> {
-    match report(rt.alloc(), input) {
-        Ok(text) => {
-            rt.stdout().write_all(&text)?;
-            Ok(())
-        }
-        Err(shortage) => Err(anyhow!(shortage.message())),
-    }
+fn settle(rt: &HostRuntime, path: Option<&str>) -> anyhow::Result<()> {
+    let text = report(rt.alloc(), &read_input(rt, path)?)?;
+    rt.stdout().write_all(&text)?;
+    Ok(())
 }
 
 // Does what the first argument says.
 fn run(rt: &HostRuntime) -> anyhow::Result<()> {
-    let Some(word) = env::args(rt)?.nth(1) else {
-        return settle(rt, &read_stdin(rt)?);
-    };
-    match word.as_str() {
-        "--help" => print!(rt; "{HELP}")?,
-        "--version" => println!(rt; "{VERSION}")?,
-        path => settle(rt, &read_file(rt, path)?)?,
+    let word = env::args(rt)?.nth(1);
+    match word.as_deref() {
+        Some("--help") => print!(rt; "{HELP}")?,
+        Some("--version") => println!(rt; "{VERSION}")?,
+        path => settle(rt, path)?,
     }
     Ok(())
 }

@@ -2,4 +2,4 @@
 #![tactic(auto)]
 
 pub mod pieces;
-pub mod puts;
+pub mod writer;

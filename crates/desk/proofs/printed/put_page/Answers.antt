@@ -1,12 +1,18 @@
-use Rattle.std.proofs.Common.{◌≡◌, length, rules}
-use Rattle.text.proofs.Joins.{puts_then}
-use Rattle.desk.proofs.Rows.{front_cut}
+use Rattle.std.proofs.lemmas.Result.{err_from_is_err_and}
+use Rattle.text.proofs.Writing.{begun, finished, grown, retold, too_long}
+use Rattle.desk.proofs.Rows.{page_ends, page_goes_on, page_starts}
 use Rattle.desk.proofs.printed.put_page.Goals as goal
 
-pub returns-in_err-end : goal.returns-in_err-end
-returns-in_err-end c = rw c.from_residual.ensures (front_cut _ _ _ _ c.in_err-end.ensures)
+pub loop-i-init : goal.loop-i-init
+loop-i-init c = retold (begun _ _) (page_starts c.args.session c.args.rows.now c.args.sums)
+
+pub returns-in_err-put_row : goal.returns-in_err-put_row
+returns-in_err-put_row c =
+    let p = err_from_is_err_and c.from_residual.result c.from_residual.ensures.1 in
+    rw p.1 (too_long c.loop-i.invariant _ (page_goes_on c.args.session c.args.rows.now c.args.sums c.loop-i.i _ c.loop-i-test.true) c.in_err-put_row.ensures)
+
+pub loop-i-preserved : goal.loop-i-preserved
+loop-i-preserved c = grown c.loop-i.invariant (page_goes_on c.args.session c.args.rows.now c.args.sums c.loop-i.i _ c.loop-i-test.true) c.in_ok-put_row.ensures
 
 pub returns : goal.returns
-returns c =
-    let same : length c.put_rows.new.out ≡ length c.args.out.now = search rules in
-    puts_then _ _ _ _ _ _ _ _ same c.in_ok-end.ensures c.put_totals.ensures
+returns c = finished (retold c.loop-i.invariant (page_ends c.args.session c.args.rows.now c.args.sums c.loop-i.i c.loop-i-test.false)) _ _ c.put_totals.ensures

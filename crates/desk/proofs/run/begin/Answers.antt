@@ -1,29 +1,29 @@
-use Rattle.std.proofs.Common.{drop, sym, ap, subst}
+use Rattle.std.proofs.Common.{sym, ap, subst}
 use Rattle.kinds.specs.Averages.{average_rule}
 use Rattle.kinds.specs.Delivery.{delivering, delivery_rule}
 use Rattle.kinds.specs.Indexes.{index_rule}
 use Rattle.kinds.specs.Indexing.{five}
 use Rattle.kinds.specs.Weighting.{weighted}
-use Rattle.reader.specs.Cuts.{lines}
-use Rattle.text.specs.Puts.{Puts}
+use Rattle.text.specs.Writers.{Writes}
+use Rattle.desk.specs.Places.{lines_left}
 use Rattle.desk.specs.Endings.{average_price, course_of, index_price, no_price}
 use Rattle.desk.proofs.Following.{average_follows, delivering_follows, five_follows, told_so}
 use Rattle.desk.proofs.run.begin.Goals as goal
 
 pub returns-in-Delivery : goal.returns-in-Delivery
 returns-in-Delivery c =
-    let told = told_so delivering delivery_rule no_price c.new-kind.result c.args.opening c.args.reader.number c.args.reader.at (lines (drop c.args.reader.at c.args.reader.input.now))
-    (ap course_of (sym c.in-Delivery.ensures)) (delivering_follows c.new-kind.result c.new-kind.ensures.law) in
-    subst (λ t. Puts c.args.out.now c.args.at t c.serve.new.out c.serve.result) told c.serve.ensures
+    let told = told_so delivering delivery_rule no_price c.new.result c.args.opening c.args.reader.number c.args.reader.at (lines_left c.args.reader)
+    (ap course_of (sym c.in-Delivery.ensures)) (delivering_follows c.new.result c.new.ensures.law) in
+    subst (λ t. Writes c.args.out.now t c.serve.new.out c.serve.result) told c.serve.ensures
 
 pub returns-in-WeightedAverage : goal.returns-in-WeightedAverage
 returns-in-WeightedAverage c =
-    let told = told_so weighted average_rule average_price c.new-kind-in-WeightedAverage.result c.args.opening c.args.reader.number c.args.reader.at (lines (drop c.args.reader.at c.args.reader.input.now))
-    (ap course_of (sym c.in-WeightedAverage.ensures)) (average_follows c.new-kind-in-WeightedAverage.result c.new-kind-in-WeightedAverage.ensures.law) in
-    subst (λ t. Puts c.args.out.now c.args.at t c.serve-in-WeightedAverage.new.out c.serve-in-WeightedAverage.result) told c.serve-in-WeightedAverage.ensures
+    let told = told_so weighted average_rule average_price c.new-in-WeightedAverage.result c.args.opening c.args.reader.number c.args.reader.at (lines_left c.args.reader)
+    (ap course_of (sym c.in-WeightedAverage.ensures)) (average_follows c.new-in-WeightedAverage.result c.new-in-WeightedAverage.ensures.law) in
+    subst (λ t. Writes c.args.out.now t c.serve-in-WeightedAverage.new.out c.serve-in-WeightedAverage.result) told c.serve-in-WeightedAverage.ensures
 
 pub returns-in-LastFive : goal.returns-in-LastFive
 returns-in-LastFive c =
-    let told = told_so five index_rule index_price c.new-kind-in-LastFive.result c.args.opening c.args.reader.number c.args.reader.at (lines (drop c.args.reader.at c.args.reader.input.now))
-    (ap course_of (sym c.in-LastFive.ensures)) (five_follows c.new-kind-in-LastFive.result c.new-kind-in-LastFive.ensures.law) in
-    subst (λ t. Puts c.args.out.now c.args.at t c.serve-in-LastFive.new.out c.serve-in-LastFive.result) told c.serve-in-LastFive.ensures
+    let told = told_so five index_rule index_price c.new-in-LastFive.result c.args.opening c.args.reader.number c.args.reader.at (lines_left c.args.reader)
+    (ap course_of (sym c.in-LastFive.ensures)) (five_follows c.new-in-LastFive.result c.new-in-LastFive.ensures.law) in
+    subst (λ t. Writes c.args.out.now t c.serve-in-LastFive.new.out c.serve-in-LastFive.result) told c.serve-in-LastFive.ensures

@@ -1,8 +1,15 @@
-use Rattle.std.proofs.Common.{◌∙◌, arith, length-take}
+use Rattle.std.proofs.Common.{◌≡◌, length, Some, ◌∙◌, subst, arith, length-take}
+use Rattle.reader.specs.Cuts.{lines}
+use Rattle.desk.specs.Progress.{Settles}
+use Rattle.desk.specs.Report.{report}
 use Rattle.desk.proofs.Tops.{top_put}
 use Rattle.desk.proofs.whole.fill.Goals as goal
 
 pub returns : goal.returns
 returns c =
+    let tables = c.args.tables in
+    let input = c.args.input.now in
+    let some : c.settle.result ≡ Some c.in_ok-end.end = grind arith in
+    let put = subst (λ r. Settles (length (lines input)) (length tables.calls.now) (length tables.log.now) (length tables.pages.now) c.deref_mut.result.now (report input) c.settle.new.out r) some c.settle.ensures in
     c.truncate.ensures.items
-    ∙ top_put _ _ c.settle.new.out _ c.args.text.len c.in-Some.end (omega (arith, length-take c.args.text.len c.args.text.items)) (omega (arith, c.settle.auto.out)) c.in-Some.ensures
+    ∙ top_put _ _ c.settle.new.out _ c.args.text.len c.in_ok-end.end (omega (arith, length-take c.args.text.len c.args.text.items)) (omega (arith, c.settle.auto.out)) put

@@ -1,14 +1,25 @@
-use Rattle.std.proofs.Common.{Some, sym, ap, ◌∙◌, subst, rules}
-use Rattle.text.specs.Puts.{Puts}
-use Rattle.settle.specs.Lines.{closing_line}
+use Rattle.std.proofs.Common.{subst}
+use Rattle.std.proofs.lemmas.Result.{err_from_is_err_and}
+use Rattle.kinds.specs.Meaning.{cents_of}
+use Rattle.text.specs.Writers.{Overflows, Writes}
+use Rattle.text.proofs.Writing.{overflows_front, overflows_then, writes_then, wrote_then}
+use Rattle.settle.specs.Lines.{final_text}
+use Rattle.settle.proofs.Closing.{closing, end}
 use Rattle.settle.proofs.printed.put_closing.Goals as goal
 
-pub returns-in-None : goal.returns-in-None
-unfolding closing_line
-returns-in-None c =
-    subst (λ p. Puts c.args.out.now c.args.at (closing_line c.args.records c.args.taken p) c.put_pieces.new.out c.put_pieces.result) (sym c.in-None.is) (search rules)
+pub returns-in_err-put_pieces : goal.returns-in_err-put_pieces
+returns-in_err-put_pieces c =
+    let p = err_from_is_err_and c.from_residual.result c.from_residual.ensures.1 in
+    let long = overflows_front end (overflows_front (final_text (cents_of c.args.price)) c.in_err-put_pieces.ensures) in
+    rw p.1 (subst (Overflows c.args.out.now) (closing c.args.records c.args.taken (cents_of c.args.price)) long)
 
-pub returns-in-Some : goal.returns-in-Some
-unfolding closing_line
-returns-in-Some c =
-    subst (λ p. Puts c.args.out.now c.args.at (closing_line c.args.records c.args.taken p) c.put_pieces-in-Some.new.out c.put_pieces-in-Some.result) (ap Some c.from.ensures ∙ sym c.in-Some.is) (search rules)
+pub returns-in_err-put_final : goal.returns-in_err-put_final
+returns-in_err-put_final c =
+    let p = err_from_is_err_and c.from_residual-in_err-put_final.result c.from_residual-in_err-put_final.ensures.1 in
+    let long = overflows_front end (overflows_then c.in_ok-put_pieces.ensures c.in_err-put_final.ensures) in
+    rw p.1 (subst (Overflows c.args.out.now) (closing c.args.records c.args.taken (cents_of c.args.price)) long)
+
+pub returns : goal.returns
+returns c =
+    let wrote = writes_then (wrote_then c.in_ok-put_pieces.ensures c.in_ok-put_final.ensures) _ _ _ c.put.ensures in
+    subst (λ t. Writes c.args.out.now t c.put.new.self c.put.result) (closing c.args.records c.args.taken (cents_of c.args.price)) wrote

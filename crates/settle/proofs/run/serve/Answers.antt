@@ -1,34 +1,38 @@
-use Rattle.std.proofs.Common.{◌≡◌, [], length, ◌∙◌, rules}
+use Rattle.std.proofs.Common.{ap, ◌∙◌, subst, arith}
+use Rattle.std.proofs.lemmas.Result.{err_from_is_err_and}
+use Rattle.kinds.specs.Meaning.{cents_of}
 use Rattle.reader.specs.Saying.{said}
+use Rattle.text.specs.Writers.{Writes}
+use Rattle.text.proofs.Writing.{finished, grown, retold, too_long}
+use Rattle.desk.specs.Courses.{course}
 use Rattle.settle.specs.Answers.{answering}
-use Rattle.settle.specs.Courses.{course}
-use Rattle.settle.proofs.Growing.{finished, grown, too_long}
-use Rattle.settle.proofs.Steps.{served_all, served_more, still_fewer}
+use Rattle.settle.specs.Lines.{closing_line}
+use Rattle.settle.proofs.Steps.{at_most_one, served_all, served_more}
 use Rattle.settle.proofs.run.serve.Goals as goal
 
-pub returns-in_err-end : goal.returns-in_err-end
-returns-in_err-end g c =
-    let inv = c.loop-came.invariant in
-    let step = c.in-Some.ensures.came in
-    let told = c.serve_record.ensures in
-    let cut = served_more (course g.K.Contract.means) c.loop-came.book.taken c.loop-came.book.kind inv.0 step c.number.ensures.value inv.1 told.kind told.taken in
-    let same : length c.loop-came.out ≡ length c.args.out.now = search rules in
-    rw c.from_residual.ensures (too_long _ _ c.serve_record.new.out _ _ _ _ _ _ inv.3 same cut c.in_err-end.ensures.puts)
+pub loop-place-preserved : goal.loop-place-preserved
+loop-place-preserved g c =
+    let quotations = course g.K.Contract.means in
+    let book = c.loop-place.book in
+    let served = c.in_ok-serve_record.ensures in
+    let step = c.in-Some.ensures in
+    record {
+      few = omega (arith, c.loop-place.invariant.few, served.taken, step.stepped.counted, at_most_one (answering quotations book.kind (said c.in-Some.came)));
+      told = grown c.loop-place.invariant.told (served_more quotations step book.taken _ book.kind _ served.kind served.taken) served.puts;
+    }
 
-pub loop-came-preserved : goal.loop-came-preserved
-loop-came-preserved g c =
-    let inv = c.loop-came.invariant in
-    let step = c.in-Some.ensures.came in
-    let told = c.serve_record.ensures in
-    let cut = served_more (course g.K.Contract.means) c.loop-came.book.taken c.loop-came.book.kind inv.0 step c.number.ensures.value inv.1 told.kind told.taken in
-    let same : length c.loop-came.out ≡ length c.args.out.now = search rules in
-    let few = still_fewer (answering (course g.K.Contract.means) c.loop-came.book.kind (said c.in-Some.came)) c.loop-came.book.taken _ c.loop-came.reader.number _ inv.2 step.counted told.taken in
-    (search rules, search rules, few, grown _ _ _ _ _ _ _ _ _ inv.3 same _ cut c.in_ok-end.ensures.puts)
+pub returns-in_err-serve_record : goal.returns-in_err-serve_record
+returns-in_err-serve_record g c =
+    let quotations = course g.K.Contract.means in
+    let book = c.loop-place.book in
+    let served = c.in_err-serve_record.ensures in
+    let p = err_from_is_err_and c.from_residual.result c.from_residual.ensures.1 in
+    rw p.1 (too_long c.loop-place.invariant.told _ (served_more quotations c.in-Some.ensures book.taken _ book.kind _ served.kind served.taken) served.puts)
 
 pub returns : goal.returns
 returns g c =
-    let inv = c.loop-came.invariant in
-    let none = c.in_default.ensures.came in
-    let all = served_all (course g.K.Contract.means) c.loop-came.reader.at c.loop-came.book.taken c.loop-came.book.kind inv.0 none.0 (c.number-2.ensures.value ∙ none.2) (c.cents.ensures.value ∙ c.final_price.ensures) in
-    let same : length c.loop-came.out ≡ length c.args.out.now = search rules in
-    finished _ _ _ _ _ _ [] _ _ inv.3 same _ all c.put_closing.ensures
+    let quotations = course g.K.Contract.means in
+    let book = c.loop-place.book in
+    let line_is = ap (λ n. closing_line n book.taken (cents_of c.final_price.result)) c.number.ensures.value ∙ ap (closing_line c.next_record.new.reader.number book.taken) c.final_price.ensures in
+    let wrote = subst (λ t. Writes c.loop-place.out t c.put_closing.new.out c.put_closing.result) line_is c.put_closing.ensures in
+    finished (retold c.loop-place.invariant.told (served_all quotations c.in_default.ensures book.taken book.kind)) _ _ wrote
