@@ -1,5 +1,5 @@
 -- A change of one or two accounts, row by row.
-use Rattle.std.proofs.Common.{◌≡◌, ℕ, zero, suc, ◌+◌, ◌-◌, ◌<◌, ◌≤◌, cond, eqb, List, [], ◌∷◌, length, get_or, take, set, sym, refl, ap, ◌∙◌, ⊎_elim, arith}
+use Rattle.std.proofs.Common.{◌≡◌, ℕ, suc, ◌+◌, ◌-◌, ◌<◌, ◌≤◌, cond, eqb, List, [], ◌∷◌, length, get_or, set, sym, refl, ap, ◌∙◌, ⊎_elim, arith}
 use Rattle.std.proofs.lemmas.List.{length-set}
 use Rattle.std.proofs.lemmas.Bool.{cases_eq, eq-eqb, ne_eqb}
 use Rattle.tally.specs.Book.{numbered}
@@ -39,12 +39,6 @@ module _ {X : Type 0} where
           let off : i - n ≡ suc (i - (n + 1)) = omega arith in
           ap (λ y. y ∷ numbered f (n + 1) xs) (h n x ne) ∙ ap (λ l. x ∷ l) more
           ∙ set_next x (f i (get_or xs (i - (n + 1)) d)) xs (i - (n + 1)) (i - n) off ∙ ap (λ y. set (x ∷ xs) (i - n) (f i y)) (getD_next x d xs (i - (n + 1)) (i - n) off)
-
-  pub take_numbered : {Y : Type 0} (f : ℕ → X → Y) (n m : ℕ) (xs : List X) → take m (numbered f n xs) ≡ numbered f n (take m xs)
-  unfolding numbered
-  take_numbered f n zero xs = refl
-  take_numbered f n (suc m) [] = refl
-  take_numbered f n (suc m) (x ∷ xs) = ap (λ l. f n x ∷ l) (take_numbered f (n + 1) m xs)
 
   -- a count that only account i is due is one row written
   pub numbered_due : (h : X → ℕ → X) → ((x : X) → h x 0 ≡ x) → (i m : ℕ) (xs : List X) (d : X) → Registered (length xs) i →

@@ -1,5 +1,5 @@
 -- A designation that is due: there is a lot for it, and what its rows make of the view.
-use Rattle.std.proofs.Common.{◌≡◌, ℕ, ◌-◌, ◌≤◌, true, List, [], ◌∷◌, ◌++◌, length, get_or, take, set, ℤ, is_some, Some, None, Ok, Option, sym, refl, ap, ◌∙◌, subst, arith}
+use Rattle.std.proofs.Common.{◌≡◌, ℕ, ◌-◌, ◌≤◌, true, List, [], ◌∷◌, ◌++◌, length, get_or, set, ℤ, is_some, Some, None, Ok, Option, sym, refl, ap, ◌∙◌, subst, arith}
 use mathlib.Core.Logic.{∥∥₁_elim}
 use native.Mathlib.Bridge.{le_prop}
 use borrow.Author.Differences.{ints}
@@ -24,7 +24,7 @@ use Rattle.ledger.specs.declared.state.Ledger.{Ledger}
 use Rattle.ledger.specs.Designations.{less_long, less_short}
 use Rattle.ledger.specs.Ledgers.{view, terms_of}
 use Rattle.ledger.specs.Reached.{Reached, viewed}
-use Rattle.ledger.proofs.Changes.{numbered_both, take_numbered}
+use Rattle.ledger.proofs.Changes.{numbered_both}
 use Rattle.ledger.proofs.Tables.{bounded, is_registered}
 
 -- ---- the first of a line
@@ -117,12 +117,10 @@ oldest_answer v n lot m (x ∷ ns) (y ∷ ls) en el em =
     ∙ ap (λ z. Ok (Designated (record { buyer = z.owner; seller = x.seller; contracts = paired x z; price = v.price }))) (sym (the_first el))
 
 -- the accounts after the designation and both lines with the contracts taken off are the view that the rules give
-pub paired_off : (l : Ledger) (n : Notice) (lot : Lot) (m : ℕ) (accounts : List Account) (lots : List Lot) (notices : List Notice) → first (view l).notices ≡ Some n → first (view l).lots ≡ Some lot → m ≡ paired n lot →
-    accounts ≡ numbered (designated_account n lot) 1 l.accounts → lots ≡ take_oldest lot_counting m (view l).lots → notices ≡ take_oldest notice_counting m (view l).notices →
-    viewed (take l.registered accounts) (view l).sheet lots notices l.session l.price l.rate l.expired ≡ designate_oldest (view l) (view l).notices (view l).lots
+pub paired_off : (l : Ledger) (n : Notice) (lot : Lot) (m : ℕ) {accounts : List Account} {lots : List Lot} {notices : List Notice} → first (view l).notices ≡ Some n → first (view l).lots ≡ Some lot → m ≡ paired n lot →
+    accounts ≡ numbered (designated_account n lot) 1 (view l).accounts → lots ≡ take_oldest lot_counting m (view l).lots → notices ≡ take_oldest notice_counting m (view l).notices →
+    viewed accounts (view l).sheet lots notices l.session l.price l.rate l.expired ≡ designate_oldest (view l) (view l).notices (view l).lots
 unfolding designate less_oldest_lots less_oldest_notices
-paired_off l n lot m accounts lots notices en el em ea eo ei =
-    ap (λ (xs : List Account). viewed xs (view l).sheet lots notices l.session l.price l.rate l.expired) (ap (take l.registered) ea ∙ take_numbered (designated_account n lot) 1 l.registered l.accounts)
-    ∙ ap (λ (xs : List Lot). viewed (numbered (designated_account n lot) 1 (view l).accounts) (view l).sheet xs notices l.session l.price l.rate l.expired) (eo ∙ ap (λ k. take_oldest lot_counting k (view l).lots) em)
-    ∙ ap (λ (xs : List Notice). viewed (numbered (designated_account n lot) 1 (view l).accounts) (view l).sheet (take_oldest lot_counting (paired n lot) (view l).lots) xs l.session l.price l.rate l.expired) (ei ∙ ap (λ k. take_oldest notice_counting k (view l).notices) em)
+paired_off l n lot m en el em ea eo ei =
+    (λ i. viewed (ea i) (view l).sheet ((eo ∙ ap (λ k. take_oldest lot_counting k (view l).lots) em) i) ((ei ∙ ap (λ k. take_oldest notice_counting k (view l).notices) em) i) l.session l.price l.rate l.expired)
     ∙ sym (oldest_view (view l) n lot (view l).notices (view l).lots en el)

@@ -9,10 +9,12 @@ ghost use Rattle.tally.specs.Book.{numbered};
 ghost use Rattle.tally.specs.Questions.{nobody};
 
 use crate::sheet::{Side, Split, read_side};
+use crate::state::ACCOUNTS;
+use arrayvec::ArrayVec;
 use tally::rows::{Account, Trade};
 
 // The two amounts of an account, in the contract's currency.
-#[derive(Clone, Copy)]
+#[derive(Clone, Copy, Default)]
 pub(crate) struct Owed {
     pub day_trade: i64,
     pub margin: i64,
@@ -173,7 +175,7 @@ pub(crate) fn owed_to_all(
     size: u32,
     last: u64,
     price: u64,
-) -> [Owed; 64]
+) -> ArrayVec<Owed, ACCOUNTS>
     requires few { length accounts.now ≤ 64 }
     requires short { length sheet.now ≤ 1024 }
     requires traded { AllByRecursion Traded sheet.now }
@@ -181,15 +183,12 @@ pub(crate) fn owed_to_all(
     requires dealt { (i : ℕ) → i < length accounts.now → Dealt sheet.now (i + 1) (slice_index_or accounts.now i nobody) }
     requires size { size ≤ 100 }
     requires prices { (price ≤ 999999) × (last ≤ 999999) }
-    ensures long { length result ≡ 64 }
-    ensures owed { take (length accounts.now) result ≡ numbered (owed_at settling size sheet.now last price) 1 accounts.now }
+    ensures { result.items ≡ numbered (owed_at settling size sheet.now last price) 1 accounts.now }
 {
-    let mut owed = [Owed {
-        day_trade: 0,
-        margin: 0,
-    }; 64];
-    for i in 0..accounts.len() {
-        owed[i] = owed_to(accounts[i], i + 1, sheet, settling, size, last, price);
+    let mut all = ArrayVec::new();
+    for (i, account) in accounts.iter().enumerate() {
+        let owed = owed_to(*account, i + 1, sheet, settling, size, last, price);
+        all.push(owed);
     }
-    owed
+    all
 }

@@ -71,8 +71,8 @@ pub(crate) fn pay_page(
         remainder: 0,
         lines: 0,
     };
-    for i in 0..accounts.len() {
-        let payee = accounts[i].residency;
+    for (i, account) in accounts.iter().enumerate() {
+        let payee = account.residency;
         let day_trade = pay_line(owed[i].day_trade, currency, payee, rate);
         let margin = pay_line(owed[i].margin, currency, payee, rate);
         page[i] = PageRow {

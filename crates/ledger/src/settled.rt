@@ -40,12 +40,12 @@ fn settled(account: Account, owed: Owed, settling: Settling) -> Account
 
 // Writes the row of each account that is owed something.
 pub(crate) fn settle_accounts(accounts: &mut [Account], owed: &[Owed], settling: Settling)
-    requires few { length owed.now ≤ length accounts.old }
-    requires accounts { AllByRecursion AccountIn (take (length owed.now) accounts.old) }
+    requires beside { length owed.now ≡ length accounts.old }
+    requires accounts { AllByRecursion AccountIn accounts.old }
     requires owed { AllByRecursion OwedIn owed.now }
-    ensures { accounts.new ≡ over (zip2 (settled_with settling) (take (length owed.now) accounts.old) owed.now) accounts.old }
+    ensures { accounts.new ≡ zip2 (settled_with settling) accounts.old owed.now }
 {
-    for i in 0..owed.len() {
-        accounts[i] = settled(accounts[i], owed[i], settling);
+    for (i, account) in accounts.iter_mut().enumerate() {
+        *account = settled(*account, owed[i], settling);
     }
 }

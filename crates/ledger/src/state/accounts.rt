@@ -9,7 +9,7 @@ ghost use Rattle.ledger.specs.Ledgers.{view, terms_of};
 ghost use Rattle.ledger.specs.Told.{judged, told};
 ghost use Rattle.tally.specs.declared.call.Reply.TheVariants.{Numbered};
 
-use crate::state::Ledger;
+use crate::state::{ACCOUNTS, Ledger};
 use tally::call::Registration;
 use tally::refusal::Refusal;
 use tally::rows::{Account, Identity};
@@ -80,13 +80,13 @@ impl Ledger {
     fn has_account_room(&self) -> bool
         ensures { result ≡ nat_lt (length (view self.now).accounts) 64 }
     {
-        self.registered < 64
+        self.accounts.len() < ACCOUNTS
     }
 
     fn has_new_identity(&self, identity: &Identity) -> bool
         ensures { result ≡ is_new identity.now (view self.now).accounts }
     {
-        is_new(identity, &self.accounts[0..self.registered])
+        is_new(identity, self.accounts.as_slice())
     }
 
     // Why an account is not registered, if it is not.
@@ -114,16 +114,11 @@ impl Ledger {
         ensures view { view self.new ≡ register (view self.old) registration }
         ensures terms { self.new.terms ≡ self.old.terms }
     {
-        let account = Account {
+        self.accounts.push(Account {
             identity: registration.identity,
             residency: registration.residency,
-            carried: 0,
-            bought: 0,
-            sold: 0,
-            total: 0,
-        };
-        self.accounts[self.registered] = account;
-        self.registered += 1;
+            ..Account::default()
+        });
     }
 
     // Registers an account, and answers its number.
@@ -135,6 +130,6 @@ impl Ledger {
     {
         self.register_verdict(registration)?;
         self.enroll(registration);
-        Ok(self.registered)
+        Ok(self.accounts.len())
     }
 }

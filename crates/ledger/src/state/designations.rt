@@ -57,7 +57,7 @@ impl Ledger {
     pub(crate) fn has_due_notice(&self) -> bool
         ensures { result ≡ is_due (view self.now).session (view self.now).notices }
     {
-        match aged::oldest(&self.notices, self.notices_used) {
+        match self.notices.oldest() {
             Some(notice) => notice.session < self.session,
             None => false,
         }
@@ -80,12 +80,12 @@ impl Ledger {
         ensures view { view self.new ≡ designate_oldest (view self.old) (view self.old).notices (view self.old).lots }
         ensures terms { self.new.terms ≡ self.old.terms }
     {
-        let notice = aged::oldest(&self.notices, self.notices_used).unwrap();
-        let lot = aged::oldest(&self.lots, self.lots_used).unwrap();
+        let notice = self.notices.oldest().unwrap();
+        let lot = self.lots.oldest().unwrap();
         let contracts = paired(notice, lot);
-        deliver(&mut self.accounts, notice, lot);
-        let _ = aged::take_oldest(&mut self.notices, &mut self.notices_used, contracts);
-        let _ = aged::take_oldest(&mut self.lots, &mut self.lots_used, contracts);
+        deliver(self.accounts.as_mut_slice(), notice, lot);
+        self.notices.take_oldest(contracts);
+        self.lots.take_oldest(contracts);
         Designation {
             buyer: lot.owner,
             seller: notice.seller,

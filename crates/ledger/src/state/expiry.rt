@@ -51,13 +51,13 @@ impl Ledger {
     {
         let rate = Rate::new(u64::from(self.rate)).unwrap();
         let owed = self.owed(Settling::Expiry, price);
-        let sums = self.pay(&owed[0..self.registered], rate, page);
+        let sums = self.pay(owed.as_slice(), rate, page);
         settle_accounts(
-            &mut self.accounts,
-            &owed[0..self.registered],
+            self.accounts.as_mut_slice(),
+            owed.as_slice(),
             Settling::Expiry,
         );
-        aged::clear(&mut self.lots_used);
+        self.lots.clear();
         self.expired = true;
         sums
     }

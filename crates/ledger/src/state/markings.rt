@@ -51,21 +51,15 @@ impl Ledger {
     {
         let price = Price::new(marking.price).unwrap();
         let rate = Rate::new(marking.rate).unwrap();
-        let accounts = self.accounts;
         let owed = self.owed(Settling::Marking, price);
-        let sums = self.pay(&owed[0..self.registered], rate, page);
+        let sums = self.pay(owed.as_slice(), rate, page);
+        turn_lots(self.accounts.as_slice(), self.session, &mut self.lots);
         settle_accounts(
-            &mut self.accounts,
-            &owed[0..self.registered],
+            self.accounts.as_mut_slice(),
+            owed.as_slice(),
             Settling::Marking,
         );
-        turn_lots(
-            &accounts[0..self.registered],
-            self.session,
-            &mut self.lots,
-            &mut self.lots_used,
-        );
-        self.written = 0;
+        self.sheet.clear();
         self.session += 1;
         self.price = price.cents();
         self.rate = rate.millionths();

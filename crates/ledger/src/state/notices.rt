@@ -9,7 +9,7 @@ ghost use Rattle.tally.specs.Steps.{notice};
 ghost use Rattle.ledger.specs.Ledgers.{view, terms_of};
 ghost use Rattle.ledger.specs.Told.{judged, plainly, told};
 
-use crate::state::Ledger;
+use crate::state::{Ledger, NOTICE_ROWS};
 use tally::call::Notification;
 use tally::refusal::Refusal;
 use tally::rows::{Account, Notice};
@@ -44,7 +44,7 @@ impl Ledger {
     pub(crate) fn is_registered(&self, number: usize) -> bool
         ensures { result ≡ is_registered (view self.now) number }
     {
-        number >= 1 && number <= self.registered
+        number >= 1 && number <= self.accounts.len()
     }
 
     fn is_in_window(&self) -> bool
@@ -57,7 +57,7 @@ impl Ledger {
     fn has_notice_room(&self) -> bool
         ensures { result ≡ nat_lt (length (view self.now).notices) 64 }
     {
-        self.notices_used < 64
+        self.notices.as_slice().len() < NOTICE_ROWS
     }
 
     // The row of an account.
@@ -72,7 +72,7 @@ impl Ledger {
     pub(crate) fn under_notice(&self, number: usize) -> u128
         ensures { result ≡ noticed_by number (view self.now).notices }
     {
-        aged::held_by(&self.notices, self.notices_used, number)
+        self.notices.held_by(number)
     }
 
     // The net of an account.
@@ -129,7 +129,7 @@ impl Ledger {
             session: self.session,
             count: notification.contracts as u32,
         };
-        let _ = aged::append(&mut self.notices, &mut self.notices_used, row);
+        let _ = self.notices.append(row);
     }
 
     // Takes a seller's notice of delivery.

@@ -10,7 +10,8 @@ ghost use Rattle.ledger.specs.Told.{over};
 
 use crate::owed::{Owed, Settling, owed_to_all};
 use crate::pages::pay_page;
-use crate::state::Ledger;
+use crate::state::{ACCOUNTS, Ledger};
+use arrayvec::ArrayVec;
 use money::units::{Price, Rate};
 use tally::rows::{PageRow, Sums};
 
@@ -19,14 +20,13 @@ impl Ledger {
     pub(crate) fn fits_page(&self, rows: usize) -> bool
         ensures { result ≡ nat_le (length (view self.now).accounts) rows }
     {
-        self.registered <= rows
+        self.accounts.len() <= rows
     }
 
     // What each account is owed at a price, in number order.
-    pub(crate) fn owed(&self, settling: Settling, price: Price) -> [Owed; 64]
-        ensures long { length result ≡ 64 }
-        ensures owed { take self.now.registered result ≡ owed_by self.now settling price.cents }
-        ensures within { AllByRecursion OwedIn (take self.now.registered result) }
+    pub(crate) fn owed(&self, settling: Settling, price: Price) -> ArrayVec<Owed, ACCOUNTS>
+        ensures owed { result.items ≡ owed_by self.now settling price.cents }
+        ensures within { AllByRecursion OwedIn result.items }
     {
         owed_to_all(
             self.accounts(),

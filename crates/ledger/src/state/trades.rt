@@ -13,20 +13,14 @@ ghost use Rattle.ledger.specs.Told.{judged, plainly, told};
 ghost use Rattle.ledger.specs.Trades.{InLimits, are_parties, buyer_net, keeps_day_limits, keeps_limits, seller_net};
 
 use crate::sheet::{Side, contracts_on};
-use crate::state::Ledger;
 use crate::state::notices::{is_counted, net, shortage};
+use crate::state::{LOT_ROWS, Ledger, SHEET_ROWS};
 use money::units::Price;
 use tally::refusal::Refusal;
 use tally::rows::{Account, Trade};
 
 // The most contracts that an account may have either way, and buy or sell in a day.
 const MAX_CONTRACTS: u64 = 3_000;
-
-// The rows of a day's sheet.
-const SHEET_ROWS: usize = 1_024;
-
-// The lots that a book has room for.
-const LOT_ROWS: usize = 1_024;
 
 // Whether a price is in range.
 pub(crate) fn is_price(price: u64) -> bool
@@ -70,8 +64,8 @@ fn lots_opened(accounts: &[Account], trade: Trade) -> usize
     ensures below { result ≤ length accounts.now }
 {
     let mut opened = 0;
-    for i in 0..accounts.len() {
-        if opens_lot(traded(trade, i + 1, accounts[i])) {
+    for (i, account) in accounts.iter().enumerate() {
+        if opens_lot(traded(trade, i + 1, *account)) {
             opened += 1;
         }
     }
@@ -112,7 +106,7 @@ impl Ledger {
     fn has_sheet_room(&self) -> bool
         ensures { result ≡ nat_lt (length (view self.now).sheet) 1024 }
     {
-        self.written < SHEET_ROWS
+        self.sheet.len() < SHEET_ROWS
     }
 
     // The net of the buyer after the trade.
@@ -189,7 +183,7 @@ impl Ledger {
         requires limits { keeps_limits (view self.now) trade ≡ true }
         ensures { result ≡ nat_le (length (view self.now).lots + count_by opens_lot (numbered (traded_account trade) 1 (view self.now).accounts)) 1024 }
     {
-        self.lots_used + lots_opened(&self.accounts[0..self.registered], trade) <= LOT_ROWS
+        self.lots.as_slice().len() + lots_opened(self.accounts.as_slice(), trade) <= LOT_ROWS
     }
 
     // Why a trade is not taken, if it is not.
@@ -232,9 +226,8 @@ impl Ledger {
         ensures view { view self.new ≡ traded_on (view self.old) trade }
         ensures terms { self.new.terms ≡ self.old.terms }
     {
-        hand_over(&mut self.accounts, trade);
-        self.sheet[self.written] = trade;
-        self.written += 1;
+        hand_over(self.accounts.as_mut_slice(), trade);
+        self.sheet.push(trade);
     }
 
     // Takes a trade onto the open session's sheet.

@@ -1,4 +1,4 @@
-use Rattle.std.proofs.Common.{◌≤◌, get_or, take, nat_abs, ap, ◌∙◌, arith}
+use Rattle.std.proofs.Common.{◌≤◌, get_or, nat_abs, ap, ◌∙◌, arith}
 use Rattle.std.proofs.ByRecursion.{All-get_or}
 use Rattle.tally.specs.Questions.{nobody}
 use Rattle.ledger.specs.Owings.{ContractsIn}
@@ -31,12 +31,9 @@ loop-i-preserved c =
     let small : nat_abs c.net.result ≤ 9000 = net_in a c.net.ensures k in
     let left = read_signed c.net.result 9000 small (omega arith) in
     let next = opens_next xs i nobody c.loop-i-test.true carried (left ∙ c.net.ensures) in (
-      turned_next xs i nobody c.loop-i-test.true c.args.session (take c.loop-i.used c.loop-i.lots) carried (left ∙ c.net.ensures) c.turn_account.ensures.lots ∙ c.loop-i.invariant.0,
-      omega (arith, next, c.loop-i.invariant.1, c.turn_account.ensures.used),
+      turned_next xs i nobody c.loop-i-test.true c.args.session c.loop-i.lots carried (left ∙ c.net.ensures) c.turn_account.ensures.lots ∙ c.loop-i.invariant.0,
+      omega (arith, next, c.loop-i.invariant.1, c.turn_account.ensures.grown),
     )
 
 pub returns : goal.returns
-returns c = record {
-  lots = turned_all c.args.session c.loop-i.i c.args.accounts.now (take c.loop-i.used c.loop-i.lots) c.loop-i-test.false ∙ c.loop-i.invariant.0;
-  used = omega (arith, c.loop-i.invariant.1);
-}
+returns c = turned_all c.args.session c.loop-i.i c.args.accounts.now c.loop-i.lots c.loop-i-test.false ∙ c.loop-i.invariant.0

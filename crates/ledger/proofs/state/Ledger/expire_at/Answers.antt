@@ -1,21 +1,17 @@
-use Rattle.std.proofs.Common.{◌≡◌, ℕ, length, take, Some, sym, refl, ap, ◌∙◌, subst, arith}
-use mathlib.Core.Logic.{∥∥₁_map}
-use Rattle.std.specs.List.{AllByRecursion}
+use Rattle.std.proofs.Common.{◌≡◌, ℕ, true, length, Some, refl, ap, ◌∙◌}
+use Rattle.arrayvec.specs.ArrayVec.{with_items}
 use Rattle.money.specs.Ranges.{is_rate}
-use Rattle.tally.specs.Book.{View}
 use Rattle.tally.specs.Events.{expiring}
 use Rattle.tally.specs.Pages.{by_expiry, page, roll}
-use Rattle.tally.specs.Steps.{done}
+use Rattle.tally.specs.Steps.{done, expire}
 use Rattle.ledger.specs.declared.owed.Settling.TheVariants.{Expiry}
 use Rattle.ledger.specs.Ledgers.{view, terms_of}
-use Rattle.ledger.specs.Owings.{AccountIn, OwedIn}
-use Rattle.ledger.specs.Reached.{Reached}
+use Rattle.ledger.specs.Reached.{viewed}
 use Rattle.ledger.specs.Told.{over}
-use Rattle.ledger.proofs.Closing.{expired_view, expiry_met, front, owed_many, page_rows, page_sums, price_is}
-use Rattle.ledger.proofs.Enrolling.{registered_is}
+use Rattle.ledger.proofs.Closing.{expired_view, expiry_met, owed_many, page_rows, page_sums, price_is, settled_back}
 use Rattle.ledger.proofs.Paying.{of_some}
 use Rattle.ledger.proofs.Rates.{rate_is}
-use Rattle.ledger.proofs.Reaching.{reach}
+use Rattle.ledger.proofs.Reaching.{goes_on}
 use Rattle.ledger.proofs.Standing.{accounts_in}
 use Rattle.ledger.proofs.state.Ledger.expire_at.Goals as goal
 
@@ -25,46 +21,48 @@ unwrap-rate-requires c = let l = c.args.self.now in c.new.ensures.test ∙ ap is
 pub pay-sums-requires : goal.pay-sums-requires
 pay-sums-requires c =
     let l = c.args.self.now in
-    let owed = c.owed-owed.ensures in
-    let cut = front l.registered c.owed-owed.result in
-    record {
-      beside = owed_many l Expiry c.args.price.cents (cut ∙ owed.owed) ∙ sym (registered_is l);
-      owed = subst (AllByRecursion OwedIn) (sym cut) owed.within;
+    rw c.as_slice.ensures.value
+    (record {
+      beside = owed_many l Expiry c.args.price.cents c.owed-owed.ensures.owed;
+      owed = c.owed-owed.ensures.within;
       page = (expiry_met l c.args.price.cents _ c.requires).room;
-    }
+    })
 
 pub settle_accounts-requires : goal.settle_accounts-requires
 settle_accounts-requires c =
     let l = c.args.self.now in
-    let owed = c.owed-owed.ensures in
-    let cut = front l.registered c.owed-owed.result in
-    let many = owed_many l Expiry c.args.price.cents (cut ∙ owed.owed) in
-    record {
-      few = omega (arith, many, l.tables.0.0, l.tables.0.1);
-      accounts = subst (λ (n : ℕ). AllByRecursion AccountIn (take n l.accounts)) (sym many) (accounts_in l);
-      owed = subst (AllByRecursion OwedIn) (sym cut) owed.within;
-    }
+    rw (c.as_mut_slice.ensures.value, c.as_slice-2.ensures.value)
+    (record {
+      beside = owed_many l Expiry c.args.price.cents c.owed-owed.ensures.owed;
+      accounts = accounts_in l;
+      owed = c.owed-owed.ensures.within;
+    })
+
+-- What is left is what the rules leave.
+left : (c : goal.After-clear) → let l = c.args.self.now in
+    viewed (with_items l.accounts c.settle_accounts.new.accounts).items l.sheet.items c.clear.new.self l.notices l.session l.price l.rate true ≡ expire (terms_of l) (view l) c.args.price.cents
+left c =
+    let l = c.args.self.now in
+    let owed = c.owed-owed.ensures.owed in
+    expired_view l c.args.price.cents owed (settled_back l Expiry c.settle_accounts.ensures c.as_mut_slice.ensures.value c.as_slice-2.ensures.value (owed_many l Expiry c.args.price.cents owed)) c.clear.ensures.after
 
 pub invariant_of-self : goal.invariant_of-self
 unfolding done
 invariant_of-self c =
     let l = c.args.self.now in
-    let p = c.args.price.cents in
-    let left = expired_view l p c.owed-owed.result l.lots c.owed-owed.ensures.owed c.settle_accounts.ensures c.clear.ensures.after in record {
-      tables = ((omega (arith, l.tables.0.0), l.tables.0.1), l.tables.1, (l.tables.2.0, omega (arith, c.clear.ensures.after)), l.tables.3);
-      reached = ∥∥₁_map l.reached (λ (x : Reached (terms_of l) (view l)). subst (λ (v : View). Reached (terms_of l) v) (sym left) (reach (terms_of l) (view l) (expiring (Some p) (length c.args.page.now)) (price_is p c.args.price.within) c.requires x));
-    }
+    let p = c.args.price in
+    record { reached = goes_on (terms_of l) (view l) (expiring (Some p.cents) (length c.args.page.now)) (price_is p.cents p.within) c.requires (left c) l.reached }
 
 pub returns : goal.returns
 returns c =
     let l = c.args.self.now in
     let p = c.args.price.cents in
-    let owed = front l.registered c.owed-owed.result ∙ c.owed-owed.ensures.owed in
+    let owed = c.as_slice.ensures.value ∙ c.owed-owed.ensures.owed in
     let r = c.unwrap-rate.result.millionths in
     let rate : r ≡ l.rate = of_some c.new.result c.unwrap-rate.result _ _ c.new.ensures.some c.unwrap-rate.ensures ∙ c.from.ensures in
     let paid = λ (j : ℕ). page (terms_of l) j (by_expiry (terms_of l) (view l) p) (roll (view l)) in
     record {
-      view = expired_view l p c.owed-owed.result l.lots c.owed-owed.ensures.owed c.settle_accounts.ensures c.clear.ensures.after;
+      view = left c.before;
       terms = refl;
       page = c.pay-sums.ensures.page ∙ ap (λ rows. over rows c.args.page.now) (page_rows l Expiry p owed r ∙ ap (λ (j : ℕ). (paid j).rows) rate);
       sums = c.pay-sums.ensures.sums ∙ page_sums l Expiry p owed r ∙ ap (λ (j : ℕ). (paid j).totals) rate;

@@ -1,6 +1,5 @@
 use Rattle.std.proofs.Common.{ℕ, ◌+◌, ◌<◌, List, length, get_or, sym, ap, ◌∙◌, subst, arith}
 use Rattle.std.specs.List.{AllByRecursion}
-use Rattle.std.proofs.lemmas.List.{length-take}
 use Rattle.tally.specs.declared.rows.Account.{Account}
 use Rattle.tally.specs.declared.rows.Trade.{Trade}
 use Rattle.tally.specs.Questions.{nobody}
@@ -8,8 +7,7 @@ use Rattle.ledger.specs.Ledgers.{view}
 use Rattle.ledger.specs.Owings.{ContractsIn, Dealt, OwedIn}
 use Rattle.ledger.specs.Sheets.{Traded}
 use Rattle.ledger.proofs.Closing.{owed_is, price_is}
-use Rattle.ledger.proofs.Enrolling.{registered_is}
-use Rattle.ledger.proofs.Standing.{contracts_in, dealt, owed_fits, price_in, sheet_traded, size_in}
+use Rattle.ledger.proofs.Standing.{contracts_in, dealt, few_accounts, few_trades, owed_fits, price_in, sheet_traded, size_in}
 use Rattle.ledger.proofs.state.Ledger.owed.Goals as goal
 
 pub owed_to_all-requires : goal.owed_to_all-requires
@@ -18,8 +16,8 @@ owed_to_all-requires c =
     let xs = c.accounts.ensures in
     let ts = c.sheet.ensures in
     record {
-      few = omega (arith, ap length xs, registered_is l, l.tables.0.1);
-      short = omega (arith, ap length ts, length-take l.written l.sheet, l.tables.1.1);
+      few = omega (arith, ap length xs, few_accounts l);
+      short = omega (arith, ap length ts, few_trades l);
       traded = subst (AllByRecursion Traded) (sym ts) (sheet_traded l);
       contracts = subst (AllByRecursion ContractsIn) (sym xs) (contracts_in l);
       dealt = subst (λ (ys : List Account). (i : ℕ) → i < length ys → Dealt c.sheet.result.now (i + 1) (get_or ys i nobody)) (sym xs)
@@ -31,9 +29,8 @@ owed_to_all-requires c =
 pub returns : goal.returns
 returns c =
     let l = c.args.self.now in
-    let is = owed_is l c.args.settling c.args.price.cents c.owed_to_all.result c.accounts.ensures c.sheet.ensures c.from.ensures (c.from-2.ensures ∙ c.cents.ensures.value) c.owed_to_all.ensures.owed in
+    let is = c.owed_to_all.ensures ∙ owed_is l c.args.settling c.args.price.cents c.accounts.ensures c.sheet.ensures c.from.ensures (c.from-2.ensures ∙ c.cents.ensures.value) in
     record {
-      long = c.owed_to_all.ensures.long;
       owed = is;
       within = subst (AllByRecursion OwedIn) (sym is) (owed_fits l c.args.settling c.args.price.cents (price_is _ c.args.price.within));
     }
