@@ -2,9 +2,18 @@
 use Rattle.std.proofs.Common.{◌≡◌, ℕ, suc, ◌+◌, ◌-◌, ◌<◌, ◌≤◌, cond, eqb, List, [], ◌∷◌, length, get_or, set, sym, refl, ap, ◌∙◌, ⊎_elim, arith}
 use Rattle.std.proofs.lemmas.List.{length-set}
 use Rattle.std.proofs.lemmas.Bool.{cases_eq, eq-eqb, ne_eqb}
+use Rattle.arrayvec.specs.ArrayVec.{ArrayVec, with_items}
+use Rattle.arrayvec.proofs.ArrayVecLemmas.{items-with_items}
 use Rattle.tally.specs.Book.{numbered}
 use Rattle.tally.specs.Law.{Registered}
+use Rattle.tally.proofs.Facts.{length_numbered}
 use Rattle.tally.proofs.Numbered.{numbered_twice}
+
+-- a table as its slice is handed back, where each row was changed by its number
+pub handed_back : {X : Type 0} (table : ArrayVec X) (f : ℕ → X → X) {slice rows : List X} → slice ≡ table.items → rows ≡ numbered f 1 slice → (with_items table rows).items ≡ numbered f 1 table.items
+handed_back table f {rows = rows} es er =
+    let e = er ∙ ap (numbered f 1) es in
+    items-with_items table rows (ap length e ∙ length_numbered f 1 table.items) ∙ e
 
 module _ {X : Type 0} where
   -- a change that leaves all from n on

@@ -112,10 +112,13 @@ pub closed : (l : Ledger) (m : MarkingCall) {accounts : List Account} {lots : Li
 unfolding mark marked_account
 closed l m ea el ep er = λ i. viewed (ea i) [] (el i) (view l).notices (l.session + 1) (ep i) (er i) l.expired
 
-pub marked_view : (l : Ledger) (m : MarkingCall) {owed : List Owed} {accounts : List Account} {lots : List Lot} {p price rate : ℕ} → p ≡ m.price → owed ≡ owed_by l Marking p →
-    accounts ≡ zip2 (settled_with Marking) (view l).accounts owed → lots ≡ turned l.session 1 (map changed (view l).accounts) (view l).lots → price ≡ p → rate ≡ m.rate →
-    viewed accounts [] lots (view l).notices (l.session + 1) price rate l.expired ≡ mark (terms_of l) (view l) m
-marked_view l m ep eo ea el e er = closed l m (ea ∙ settled_rows l Marking m.price (eo ∙ ap (owed_by l Marking) ep)) el (e ∙ ep) er
+pub marked_view : (l : Ledger) (m : MarkingCall) {owed os : List Owed} {slice seen accounts : List Account} {sheet : List Trade} {lots : List Lot} {p price rate : ℕ} → p ≡ m.price → owed ≡ owed_by l Marking p →
+    accounts ≡ zip2 (settled_with Marking) slice os → slice ≡ (view l).accounts → os ≡ owed → sheet ≡ [] → lots ≡ turned l.session 1 (map changed seen) (view l).lots → seen ≡ (view l).accounts → price ≡ p → rate ≡ m.rate →
+    viewed (with_items l.accounts accounts).items sheet lots (view l).notices (l.session + 1) price rate l.expired ≡ mark (terms_of l) (view l) m
+marked_view l m {lots = lots} {price = price} {rate = rate} ep eo ea es eos et el ev e er =
+    let rows = settled_back l Marking ea es eos (owed_many l Marking _ eo) ∙ settled_rows l Marking m.price (eo ∙ ap (owed_by l Marking) ep) in
+    (λ i. viewed (rows i) (et i) lots (view l).notices (l.session + 1) price rate l.expired)
+    ∙ closed l m refl (el ∙ ap (λ xs. turned l.session 1 (map changed xs) (view l).lots) ev) (e ∙ ep) er
 
 -- ---- an expiry
 pub record Expiring (l : Ledger) (rows : ℕ) : Type 0 where
@@ -147,11 +150,11 @@ unfolding expire
 ended l final ea el = λ i. viewed (ea i) (view l).sheet (el i) (view l).notices l.session l.price l.rate true
 
 -- the view that it leaves
-pub expired_view : (l : Ledger) (final : ℕ) {owed : List Owed} {accounts : List Account} {lots : List Lot} → owed ≡ owed_by l Expiry final → accounts ≡ zip2 (settled_with Expiry) (view l).accounts owed → lots ≡ [] →
-    viewed accounts (view l).sheet lots (view l).notices l.session l.price l.rate true ≡ expire (terms_of l) (view l) final
-expired_view l final eo ea el =
+pub expired_view : (l : Ledger) (final : ℕ) {owed os : List Owed} {slice accounts : List Account} {lots : List Lot} → owed ≡ owed_by l Expiry final → accounts ≡ zip2 (settled_with Expiry) slice os → slice ≡ (view l).accounts → os ≡ owed → lots ≡ [] →
+    viewed (with_items l.accounts accounts).items (view l).sheet lots (view l).notices l.session l.price l.rate true ≡ expire (terms_of l) (view l) final
+expired_view l final eo ea es eos el =
     ended l final
-    (ea ∙ settled_rows l Expiry final eo ∙ numbered_same _ (expired_account (terms_of l) (view l) final) 1 (view l).accounts (λ k a _ _. expired_row l final k a))
+    (settled_back l Expiry ea es eos (owed_many l Expiry final eo) ∙ settled_rows l Expiry final eo ∙ numbered_same _ (expired_account (terms_of l) (view l) final) 1 (view l).accounts (λ k a _ _. expired_row l final k a))
     el
 
 -- an accepted expiry has its final price

@@ -5,6 +5,7 @@ use native.Mathlib.Bridge.{le_prop}
 use borrow.Author.Differences.{ints}
 use Rattle.std.specs.List.{AllByRecursion}
 use Rattle.std.proofs.lemmas.Bool.{false≢true, ltb-true}
+use Rattle.arrayvec.specs.ArrayVec.{with_items}
 use Rattle.aged.specs.Line.{first, take_oldest}
 use Rattle.tally.specs.declared.call.Reply.TheVariants.{Designated}
 use Rattle.tally.specs.declared.rows.Account.{Account}
@@ -24,7 +25,7 @@ use Rattle.ledger.specs.declared.state.Ledger.{Ledger}
 use Rattle.ledger.specs.Designations.{less_long, less_short}
 use Rattle.ledger.specs.Ledgers.{view, terms_of}
 use Rattle.ledger.specs.Reached.{Reached, viewed}
-use Rattle.ledger.proofs.Changes.{numbered_both}
+use Rattle.ledger.proofs.Changes.{handed_back, numbered_both}
 use Rattle.ledger.proofs.Tables.{bounded, is_registered}
 
 -- ---- the first of a line
@@ -117,10 +118,10 @@ oldest_answer v n lot m (x ∷ ns) (y ∷ ls) en el em =
     ∙ ap (λ z. Ok (Designated (record { buyer = z.owner; seller = x.seller; contracts = paired x z; price = v.price }))) (sym (the_first el))
 
 -- the accounts after the designation and both lines with the contracts taken off are the view that the rules give
-pub paired_off : (l : Ledger) (n : Notice) (lot : Lot) (m : ℕ) {accounts : List Account} {lots : List Lot} {notices : List Notice} → first (view l).notices ≡ Some n → first (view l).lots ≡ Some lot → m ≡ paired n lot →
-    accounts ≡ numbered (designated_account n lot) 1 (view l).accounts → lots ≡ take_oldest lot_counting m (view l).lots → notices ≡ take_oldest notice_counting m (view l).notices →
-    viewed accounts (view l).sheet lots notices l.session l.price l.rate l.expired ≡ designate_oldest (view l) (view l).notices (view l).lots
+pub paired_off : (l : Ledger) (n : Notice) (lot : Lot) (m : ℕ) {slice accounts : List Account} {lots : List Lot} {notices : List Notice} → first (view l).notices ≡ Some n → first (view l).lots ≡ Some lot → m ≡ paired n lot →
+    slice ≡ (view l).accounts → accounts ≡ numbered (designated_account n lot) 1 slice → lots ≡ take_oldest lot_counting m (view l).lots → notices ≡ take_oldest notice_counting m (view l).notices →
+    viewed (with_items l.accounts accounts).items (view l).sheet lots notices l.session l.price l.rate l.expired ≡ designate_oldest (view l) (view l).notices (view l).lots
 unfolding designate less_oldest_lots less_oldest_notices
-paired_off l n lot m en el em ea eo ei =
-    (λ i. viewed (ea i) (view l).sheet ((eo ∙ ap (λ k. take_oldest lot_counting k (view l).lots) em) i) ((ei ∙ ap (λ k. take_oldest notice_counting k (view l).notices) em) i) l.session l.price l.rate l.expired)
+paired_off l n lot m en el em es ea eo ei =
+    (λ i. viewed (handed_back l.accounts (designated_account n lot) es ea i) (view l).sheet ((eo ∙ ap (λ k. take_oldest lot_counting k (view l).lots) em) i) ((ei ∙ ap (λ k. take_oldest notice_counting k (view l).notices) em) i) l.session l.price l.rate l.expired)
     ∙ sym (oldest_view (view l) n lot (view l).notices (view l).lots en el)

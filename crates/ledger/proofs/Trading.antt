@@ -1,22 +1,25 @@
 -- A trade: what its questions tell, and what its rows make of the view.
-use Rattle.std.proofs.Common.{◌≡◌, ℕ, ◌+◌, ◌-◌, ◌<◌, ◌≤◌, Bool, true, cond, not, ◌&&◌, eqb, leb, List, length, get_or, take, set, nat_abs, None, count_by, sym, ap, ◌∙◌, subst, ⊎_elim, add-zero, arith}
+use Rattle.std.proofs.Common.{◌≡◌, ℕ, ◌+◌, ◌-◌, ◌<◌, ◌≤◌, Bool, true, cond, not, ◌&&◌, eqb, leb, List, [], ◌∷◌, ◌++◌, length, get_or, take, set, nat_abs, None, count_by, sym, ap, ◌∙◌, subst, ⊎_elim, add-zero, arith}
 use mathlib.Core.Logic.{∥∥₁_elim}
 use native.Mathlib.Bridge.{le_prop}
 use borrow.Author.Differences.{ints}
 use Rattle.std.proofs.lemmas.List.{take_all}
 use Rattle.std.proofs.lemmas.List.Sums.{sum_by_more}
 use Rattle.std.proofs.lemmas.Bool.{and_parts, not-true, eqb-false, leb-true, ltb-true, cases_eq, eq-eqb, ne_eqb}
+use Rattle.arrayvec.specs.ArrayVec.{with_items}
 use Rattle.tally.specs.declared.rows.Account.{Account}
 use Rattle.tally.specs.declared.rows.Trade.{Trade}
 use Rattle.tally.specs.Book.{numbered}
 use Rattle.tally.specs.Events.{trading}
 use Rattle.tally.specs.Law.{Registered}
 use Rattle.tally.specs.Questions.{at_most_3000, find, net_of, nobody, opens_lot, questions, registered, traded_account, verdict}
+use Rattle.tally.specs.Steps.{trade}
 use Rattle.tally.proofs.Facts.{get_d_numbered, length_numbered, met}
 use Rattle.ledger.specs.declared.state.Ledger.{Ledger}
 use Rattle.ledger.specs.Ledgers.{view, terms_of}
+use Rattle.ledger.specs.Reached.{viewed}
 use Rattle.ledger.specs.Trades.{InLimits, are_parties, buyer_net, keeps_day_limits, keeps_limits, seller_net}
-use Rattle.ledger.proofs.Changes.{numbered_both}
+use Rattle.ledger.proofs.Changes.{handed_back, numbered_both}
 use Rattle.ledger.proofs.Tables.{bounded, contracts, is_registered, registers}
 
 -- the two sides of a trade
@@ -134,3 +137,8 @@ taken l t q =
       bought = limits.0;
       sold = limits.1;
     }
+
+-- the accounts as their slice is handed back, and the sheet with its row, are the view that the rules give
+pub entered : (l : Ledger) (t : Trade) {slice accounts : List Account} {sheet : List Trade} → slice ≡ (view l).accounts → accounts ≡ numbered (traded_account t) 1 slice → sheet ≡ (view l).sheet ++ t ∷ [] →
+    viewed (with_items l.accounts accounts).items sheet (view l).lots (view l).notices l.session l.price l.rate l.expired ≡ trade (view l) t
+entered l t es ea et = λ i. viewed (handed_back l.accounts (traded_account t) es ea i) (et i) (view l).lots (view l).notices l.session l.price l.rate l.expired

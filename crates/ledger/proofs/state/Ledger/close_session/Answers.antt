@@ -10,7 +10,7 @@ use Rattle.ledger.specs.Ledgers.{view, terms_of}
 use Rattle.ledger.specs.Owings.{changed}
 use Rattle.ledger.specs.Reached.{viewed}
 use Rattle.ledger.specs.Told.{over}
-use Rattle.ledger.proofs.Closing.{marked_view, marking_met, owed_many, page_rows, page_sums, settled_back}
+use Rattle.ledger.proofs.Closing.{marked_view, marking_met, owed_many, page_rows, page_sums}
 use Rattle.ledger.proofs.Paying.{of_some}
 use Rattle.ledger.proofs.Reaching.{goes_on}
 use Rattle.ledger.proofs.Standing.{accounts_in, contracts_in, few_accounts, few_lots, session_in}
@@ -48,42 +48,29 @@ settle_accounts-requires c =
 pub overflow_add-self : goal.overflow_add-self
 overflow_add-self c = let s = session_in c.args.self.now in omega arith
 
--- The price and the rate are those of the call.
-price_read : (c : goal.After-millionths-self) → c.unwrap-price.result.cents ≡ c.args.marking.price
-price_read c = of_some c.new.result c.unwrap-price.result _ _ c.new.ensures.some c.unwrap-price.ensures
-
-rate_read : (c : goal.After-millionths-self) → c.unwrap-rate.result.millionths ≡ c.args.marking.rate
-rate_read c = of_some c.new-2.result c.unwrap-rate.result _ _ c.new-2.ensures.some c.unwrap-rate.ensures
-
--- What is left is what the rules leave.
-left : (c : goal.After-millionths-self) → let l = c.args.self.now in
-    viewed (with_items l.accounts c.settle_accounts.new.accounts).items c.clear.new.self.items c.turn_lots.new.lots l.notices (l.session + 1) c.cents-self.result c.millionths-self.result l.expired ≡ mark (terms_of l) (view l) c.args.marking
-left c =
-    let l = c.args.self.now in
-    let owed = c.owed-owed.ensures.owed in
-    ap (λ (ts : List Trade). viewed (with_items l.accounts c.settle_accounts.new.accounts).items ts c.turn_lots.new.lots l.notices (l.session + 1) c.cents-self.result c.millionths-self.result l.expired) c.clear.ensures
-    ∙ marked_view l c.args.marking (price_read c) owed
-    (settled_back l Marking c.settle_accounts.ensures c.as_mut_slice.ensures.value c.as_slice-3.ensures.value (owed_many l Marking c.unwrap-price.result.cents owed))
-    (c.turn_lots.ensures ∙ ap (λ (xs : List Account). turned l.session 1 (map changed xs) l.lots) c.as_slice-2.ensures.value)
-    c.cents-self.ensures.value (c.millionths-self.ensures.value ∙ rate_read c)
-
 pub invariant_of-self : goal.invariant_of-self
 unfolding done
 invariant_of-self c =
     let l = c.args.self.now in
-    record { reached = goes_on (terms_of l) (view l) (marking c.args.marking (length c.args.page.now)) tt c.requires (left c) l.reached }
+    let m = c.args.marking in
+    let price = of_some c.new.result c.unwrap-price.result _ _ c.new.ensures.some c.unwrap-price.ensures in
+    let rate = of_some c.new-2.result c.unwrap-rate.result _ _ c.new-2.ensures.some c.unwrap-rate.ensures in
+    let left = marked_view l m price c.owed-owed.ensures.owed c.settle_accounts.ensures c.as_mut_slice.ensures.value c.as_slice-3.ensures.value c.clear.ensures c.turn_lots.ensures c.as_slice-2.ensures.value c.cents-self.ensures.value (c.millionths-self.ensures.value ∙ rate) in
+    record { reached = goes_on (terms_of l) (view l) (marking m (length c.args.page.now)) tt c.requires left l.reached }
 
 pub returns : goal.returns
 returns c =
     let l = c.args.self.now in
     let m = c.args.marking in
+    let price = of_some c.new.result c.unwrap-price.result _ _ c.new.ensures.some c.unwrap-price.ensures in
+    let rate = of_some c.new-2.result c.unwrap-rate.result _ _ c.new-2.ensures.some c.unwrap-rate.ensures in
     let p = c.unwrap-price.result.cents in
     let r = c.unwrap-rate.result.millionths in
     let owed = c.as_slice.ensures.value ∙ c.owed-owed.ensures.owed in
     let paid = λ (i j : ℕ). page (terms_of l) j (by_marking (terms_of l) (view l) i) (roll (view l)) in
     record {
-      view = left c.before;
+      view = marked_view l m price c.owed-owed.ensures.owed c.settle_accounts.ensures c.as_mut_slice.ensures.value c.as_slice-3.ensures.value c.clear.ensures c.turn_lots.ensures c.as_slice-2.ensures.value c.cents-self.ensures.value (c.millionths-self.ensures.value ∙ rate);
       terms = refl;
-      page = c.pay-sums.ensures.page ∙ ap (λ rows. over rows c.args.page.now) (page_rows l Marking p owed r ∙ ap (λ (i : ℕ). (paid i r).rows) (price_read c.before) ∙ ap (λ (j : ℕ). (paid m.price j).rows) (rate_read c.before));
-      sums = c.pay-sums.ensures.sums ∙ page_sums l Marking p owed r ∙ ap (λ (i : ℕ). (paid i r).totals) (price_read c.before) ∙ ap (λ (j : ℕ). (paid m.price j).totals) (rate_read c.before);
+      page = c.pay-sums.ensures.page ∙ ap (λ rows. over rows c.args.page.now) (page_rows l Marking p owed r ∙ ap (λ (i : ℕ). (paid i r).rows) price ∙ ap (λ (j : ℕ). (paid m.price j).rows) rate);
+      sums = c.pay-sums.ensures.sums ∙ page_sums l Marking p owed r ∙ ap (λ (i : ℕ). (paid i r).totals) price ∙ ap (λ (j : ℕ). (paid m.price j).totals) rate;
     }

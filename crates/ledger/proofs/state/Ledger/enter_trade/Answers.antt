@@ -10,7 +10,7 @@ use Rattle.ledger.specs.Ledgers.{view, terms_of}
 use Rattle.ledger.specs.Reached.{viewed}
 use Rattle.ledger.proofs.Reaching.{goes_on}
 use Rattle.ledger.proofs.Tables.{registers}
-use Rattle.ledger.proofs.Trading.{taken}
+use Rattle.ledger.proofs.Trading.{taken, entered}
 use Rattle.ledger.proofs.state.Ledger.enter_trade.Goals as goal
 
 pub hand_over-requires : goal.hand_over-requires
@@ -29,19 +29,11 @@ hand_over-requires c =
 pub push-requires : goal.push-requires
 push-requires c = (omega arith, (taken c.args.self.now c.args.trade c.requires).room)
 
--- The accounts as their slice is handed back.
-accounts_after : (c : goal.After-push) → (with_items c.args.self.now.accounts c.hand_over.new.accounts).items ≡ numbered (traded_account c.args.trade) 1 c.args.self.now.accounts.items
-accounts_after c =
-    let e = c.hand_over.ensures ∙ ap (numbered (traded_account c.args.trade) 1) c.as_mut_slice.ensures.value in
-    items-with_items c.args.self.now.accounts c.hand_over.new.accounts (ap length e ∙ length_numbered (traded_account c.args.trade) 1 c.args.self.now.accounts.items) ∙ e
-
 pub invariant_of-self : goal.invariant_of-self
 unfolding done
 invariant_of-self c =
     let l = c.args.self.now in
-    record { reached = goes_on (terms_of l) (view l) (trading c.args.trade) tt c.requires (λ i. viewed (accounts_after c i) (c.push.ensures.items i) l.lots l.notices l.session l.price l.rate l.expired) l.reached }
+    record { reached = goes_on (terms_of l) (view l) (trading c.args.trade) tt c.requires (entered l c.args.trade c.as_mut_slice.ensures.value c.hand_over.ensures c.push.ensures.items) l.reached }
 
 pub returns-clause-view : goal.returns-clause-view
-returns-clause-view c =
-    let l = c.args.self.now in
-    λ i. viewed (accounts_after c.before i) (c.push.ensures.items i) l.lots l.notices l.session l.price l.rate l.expired
+returns-clause-view c = entered c.args.self.now c.args.trade c.as_mut_slice.ensures.value c.hand_over.ensures c.push.ensures.items

@@ -8,7 +8,7 @@ use Rattle.ledger.specs.declared.owed.Settling.TheVariants.{Expiry}
 use Rattle.ledger.specs.Ledgers.{view, terms_of}
 use Rattle.ledger.specs.Reached.{viewed}
 use Rattle.ledger.specs.Told.{over}
-use Rattle.ledger.proofs.Closing.{expired_view, expiry_met, owed_many, page_rows, page_sums, price_is, settled_back}
+use Rattle.ledger.proofs.Closing.{expired_view, expiry_met, owed_many, page_rows, page_sums, price_is}
 use Rattle.ledger.proofs.Paying.{of_some}
 use Rattle.ledger.proofs.Rates.{rate_is}
 use Rattle.ledger.proofs.Reaching.{goes_on}
@@ -38,20 +38,12 @@ settle_accounts-requires c =
       owed = c.owed-owed.ensures.within;
     })
 
--- What is left is what the rules leave.
-left : (c : goal.After-clear) → let l = c.args.self.now in
-    viewed (with_items l.accounts c.settle_accounts.new.accounts).items l.sheet.items c.clear.new.self l.notices l.session l.price l.rate true ≡ expire (terms_of l) (view l) c.args.price.cents
-left c =
-    let l = c.args.self.now in
-    let owed = c.owed-owed.ensures.owed in
-    expired_view l c.args.price.cents owed (settled_back l Expiry c.settle_accounts.ensures c.as_mut_slice.ensures.value c.as_slice-2.ensures.value (owed_many l Expiry c.args.price.cents owed)) c.clear.ensures.after
-
 pub invariant_of-self : goal.invariant_of-self
 unfolding done
 invariant_of-self c =
     let l = c.args.self.now in
-    let p = c.args.price in
-    record { reached = goes_on (terms_of l) (view l) (expiring (Some p.cents) (length c.args.page.now)) (price_is p.cents p.within) c.requires (left c) l.reached }
+    let p = c.args.price.cents in
+    record { reached = goes_on (terms_of l) (view l) (expiring (Some p) (length c.args.page.now)) (price_is p c.args.price.within) c.requires (expired_view l p c.owed-owed.ensures.owed c.settle_accounts.ensures c.as_mut_slice.ensures.value c.as_slice-2.ensures.value c.clear.ensures.after) l.reached }
 
 pub returns : goal.returns
 returns c =
@@ -62,7 +54,7 @@ returns c =
     let rate : r ≡ l.rate = of_some c.new.result c.unwrap-rate.result _ _ c.new.ensures.some c.unwrap-rate.ensures ∙ c.from.ensures in
     let paid = λ (j : ℕ). page (terms_of l) j (by_expiry (terms_of l) (view l) p) (roll (view l)) in
     record {
-      view = left c.before;
+      view = expired_view l p c.owed-owed.ensures.owed c.settle_accounts.ensures c.as_mut_slice.ensures.value c.as_slice-2.ensures.value c.clear.ensures.after;
       terms = refl;
       page = c.pay-sums.ensures.page ∙ ap (λ rows. over rows c.args.page.now) (page_rows l Expiry p owed r ∙ ap (λ (j : ℕ). (paid j).rows) rate);
       sums = c.pay-sums.ensures.sums ∙ page_sums l Expiry p owed r ∙ ap (λ (j : ℕ). (paid j).totals) rate;

@@ -32,20 +32,13 @@ deliver-requires c =
       few = p.few;
     })
 
--- The accounts as their slice is handed back.
-accounts_after : (c : goal.After-take_oldest-2) → (with_items c.args.self.now.accounts c.deliver.new.accounts).items ≡ numbered (designated_account c.unwrap-notice.result c.unwrap-lot.result) 1 c.args.self.now.accounts.items
-accounts_after c =
-    let f = designated_account c.unwrap-notice.result c.unwrap-lot.result in
-    let e = c.deliver.ensures ∙ ap (numbered f 1) c.as_mut_slice.ensures.value in
-    items-with_items c.args.self.now.accounts c.deliver.new.accounts (ap length e ∙ length_numbered f 1 c.args.self.now.accounts.items) ∙ e
-
 pub invariant_of-self : goal.invariant_of-self
 unfolding done
 invariant_of-self c =
     let l = c.args.self.now in
     let n = c.unwrap-notice.result in
     let lot = c.unwrap-lot.result in
-    let e = paired_off l n lot c.paired-contracts.result (sym c.oldest.ensures ∙ c.unwrap-notice.ensures) (sym c.oldest-2.ensures ∙ c.unwrap-lot.ensures) c.paired-contracts.ensures (accounts_after c) c.take_oldest-2.ensures.after c.take_oldest.ensures.after in
+    let e = paired_off l n lot c.paired-contracts.result (sym c.oldest.ensures ∙ c.unwrap-notice.ensures) (sym c.oldest-2.ensures ∙ c.unwrap-lot.ensures) c.paired-contracts.ensures c.as_mut_slice.ensures.value c.deliver.ensures c.take_oldest-2.ensures.after c.take_oldest.ensures.after in
     record { reached = goes_on (terms_of l) (view l) designating tt c.requires e l.reached }
 
 pub returns : goal.returns
@@ -57,6 +50,6 @@ returns c =
     let el = sym c.oldest-2.ensures ∙ c.unwrap-lot.ensures in
     record {
       answer = oldest_answer (view l) n lot c.paired-contracts.result (view l).notices (view l).lots en el c.paired-contracts.ensures;
-      view = paired_off l n lot c.paired-contracts.result en el c.paired-contracts.ensures (accounts_after c.before) c.take_oldest-2.ensures.after c.take_oldest.ensures.after;
+      view = paired_off l n lot c.paired-contracts.result en el c.paired-contracts.ensures c.as_mut_slice.ensures.value c.deliver.ensures c.take_oldest-2.ensures.after c.take_oldest.ensures.after;
       terms = refl;
     }
