@@ -1,7 +1,6 @@
 pub mod Sides
 pub mod Products
 pub mod Gains
-pub mod Names
 pub mod Reaching
 pub mod Tables
 pub mod Noticing

@@ -29,6 +29,9 @@ pub(crate) const LOT_ROWS: usize = 1_024;
 // The notices that a book has room for.
 pub(crate) const NOTICE_ROWS: usize = 64;
 
+// The most contracts that an account may have either way, and buy, sell or give notice of in a day.
+pub(crate) const MAX_CONTRACTS: u64 = 3_000;
+
 // What a book is built on: the kind's size, currency, tick and delivery, the last session, and the sessions from and to which notice can be given.
 #[derive(Clone, Copy)]
 pub struct BookTerms {

@@ -64,6 +64,7 @@ impl Ledger {
     }
 
     // Why there is no designation, if there is none.
+    #[tactic(auto, unfolding(tally::specs::Questions::questions, tally::specs::Questions::first_unmet))]
     fn designation_verdict(&self) -> Result<(), Refusal>
         ensures { result ≡ judged (verdict (terms_of self.now) (view self.now) designating) }
     {

@@ -26,6 +26,7 @@ impl Ledger {
     }
 
     // Why the contract does not expire, if it does not.
+    #[tactic(auto, unfolding(tally::specs::Questions::questions, tally::specs::Questions::first_unmet))]
     fn expiry_verdict(&self, final_price: Option<Price>, rows: usize) -> Result<(), Refusal>
         ensures { result ≡ judged (verdict (terms_of self.now) (view self.now) (expiring (cents_of final_price) rows)) }
     {

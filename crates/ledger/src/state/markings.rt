@@ -20,6 +20,7 @@ use tally::rows::{PageRow, Sums};
 
 impl Ledger {
     // Why a session is not marked, if it is not.
+    #[tactic(auto, unfolding(tally::specs::Questions::questions, tally::specs::Questions::first_unmet))]
     fn mark_verdict(&self, marking: Marking, rows: usize) -> Result<(), Refusal>
         ensures { result ≡ judged (verdict (terms_of self.now) (view self.now) (marks marking rows)) }
     {

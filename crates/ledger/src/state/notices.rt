@@ -9,7 +9,7 @@ ghost use Rattle.tally.specs.Steps.{notice};
 ghost use Rattle.ledger.specs.Ledgers.{view, terms_of};
 ghost use Rattle.ledger.specs.Told.{judged, plainly, told};
 
-use crate::state::{Ledger, NOTICE_ROWS};
+use crate::state::{Ledger, MAX_CONTRACTS, NOTICE_ROWS};
 use tally::call::Notification;
 use tally::refusal::Refusal;
 use tally::rows::{Account, Notice};
@@ -18,7 +18,7 @@ use tally::rows::{Account, Notice};
 pub(crate) fn is_counted(contracts: u64) -> bool
     ensures { result ≡ between 1 3000 contracts }
 {
-    contracts >= 1 && contracts <= 3_000
+    (1..=MAX_CONTRACTS).contains(&contracts)
 }
 
 // Carried plus bought minus sold in the open session.
@@ -44,14 +44,13 @@ impl Ledger {
     pub(crate) fn is_registered(&self, number: usize) -> bool
         ensures { result ≡ is_registered (view self.now) number }
     {
-        number >= 1 && number <= self.accounts.len()
+        (1..=self.accounts.len()).contains(&number)
     }
 
     fn is_in_window(&self) -> bool
         ensures { result ≡ between (terms_of self.now).opens (terms_of self.now).closes (view self.now).session }
     {
-        let session = u64::from(self.session);
-        self.terms.opens <= session && session <= self.terms.closes
+        (self.terms.opens..=self.terms.closes).contains(&u64::from(self.session))
     }
 
     fn has_notice_room(&self) -> bool
@@ -69,6 +68,7 @@ impl Ledger {
     }
 
     // What an account has under notice, due or not.
+    #[tactic(auto, unfolding(tally::specs::Questions::under_notice))]
     pub(crate) fn under_notice(&self, number: usize) -> u128
         ensures { result ≡ noticed_by number (view self.now).notices }
     {
@@ -94,6 +94,7 @@ impl Ledger {
     }
 
     // Why a notice is not taken, if it is not.
+    #[tactic(auto, unfolding(tally::specs::Questions::questions, tally::specs::Questions::first_unmet))]
     fn notice_verdict(&self, notification: Notification) -> Result<(), Refusal>
         ensures { result ≡ judged (verdict (terms_of self.now) (view self.now) (noticing notification)) }
     {

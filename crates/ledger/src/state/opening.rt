@@ -29,17 +29,18 @@ fn has_window(terms: &BookTerms) -> bool
 }
 
 // Whether the book has sessions, as many as it may, and its window.
+#[tactic(auto, unfolding(tally::specs::Questions::is_buildable))]
 pub fn is_buildable(terms: &BookTerms) -> bool
     ensures { result ≡ is_buildable (terms_in terms.now) }
 {
-    terms.last >= 1 && terms.last <= MAX_SESSIONS && has_window(terms)
+    (1..=MAX_SESSIONS).contains(&terms.last) && has_window(terms)
 }
 
 // Whether size and tick are those of a kind.
 fn is_of_kind(terms: &BookTerms) -> bool
     ensures { result ≡ (between 1 100 terms.now.size && nat_le 1 terms.now.tick) }
 {
-    terms.size >= 1 && terms.size <= MAX_SIZE && terms.tick >= 1
+    (1..=MAX_SIZE).contains(&terms.size) && terms.tick >= 1
 }
 
 impl Ledger {

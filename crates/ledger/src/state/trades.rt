@@ -14,20 +14,10 @@ ghost use Rattle.ledger.specs.Trades.{InLimits, are_parties, buyer_net, keeps_da
 
 use crate::sheet::{Side, contracts_on};
 use crate::state::notices::{is_counted, net, shortage};
-use crate::state::{LOT_ROWS, Ledger, SHEET_ROWS};
+use crate::state::{LOT_ROWS, Ledger, MAX_CONTRACTS, SHEET_ROWS};
 use money::units::Price;
 use tally::refusal::Refusal;
 use tally::rows::{Account, Trade};
-
-// The most contracts that an account may have either way, and buy or sell in a day.
-const MAX_CONTRACTS: u64 = 3_000;
-
-// Whether a price is in range.
-pub(crate) fn is_price(price: u64) -> bool
-    ensures { result ≡ is_price price }
-{
-    price >= Price::LEAST && price <= Price::GREATEST
-}
 
 // Whether signed contracts are within the limit either way.
 fn is_limited(contracts: i64) -> bool
@@ -37,6 +27,7 @@ fn is_limited(contracts: i64) -> bool
 }
 
 // The account with a number after a trade, of which it may be a side.
+#[tactic(auto, unfolding(tally::specs::Questions::traded_account))]
 fn traded(trade: Trade, number: usize, account: Account) -> Account
     requires { InLimits (traded_account trade number account) }
     ensures { result ≡ traded_account trade number account }
@@ -99,7 +90,7 @@ impl Ledger {
     fn is_on_tick(&self, price: u64) -> bool
         ensures { result ≡ (is_price price && price % (terms_of self.now).tick == 0) }
     {
-        is_price(price) && price % u64::from(self.terms.tick) == 0
+        Price::new(price).is_some() && price % u64::from(self.terms.tick) == 0
     }
 
     // Whether the day's sheet has a row left.
@@ -187,6 +178,7 @@ impl Ledger {
     }
 
     // Why a trade is not taken, if it is not.
+    #[tactic(auto, unfolding(tally::specs::Questions::questions, tally::specs::Questions::first_unmet))]
     fn trade_verdict(&self, trade: Trade) -> Result<(), Refusal>
         ensures { result ≡ judged (verdict (terms_of self.now) (view self.now) (trading trade)) }
     {

@@ -1,14 +1,9 @@
-use Rattle.std.proofs.Common.{◌≡◌, ℕ, ◌+◌, List, map, length, refl, ap, ◌∙◌, arith}
-use Rattle.arrayvec.specs.ArrayVec.{with_items}
-use Rattle.tally.specs.declared.rows.Account.{Account}
-use Rattle.tally.specs.declared.rows.Trade.{Trade}
+use Rattle.std.proofs.Common.{ℕ, length, refl, ap, ◌∙◌, arith}
 use Rattle.tally.specs.Events.{marking}
 use Rattle.tally.specs.Pages.{by_marking, page, roll}
-use Rattle.tally.specs.Steps.{done, mark, turned}
+use Rattle.tally.specs.Steps.{done}
 use Rattle.ledger.specs.declared.owed.Settling.TheVariants.{Marking}
 use Rattle.ledger.specs.Ledgers.{view, terms_of}
-use Rattle.ledger.specs.Owings.{changed}
-use Rattle.ledger.specs.Reached.{viewed}
 use Rattle.ledger.specs.Told.{over}
 use Rattle.ledger.proofs.Closing.{marked_view, marking_met, owed_many, page_rows, page_sums}
 use Rattle.ledger.proofs.Paying.{of_some}

@@ -1,13 +1,7 @@
-use Rattle.std.proofs.Common.{◌≡◌, length, ap, ◌∙◌, arith}
-use Rattle.arrayvec.proofs.ArrayVecLemmas.{items-with_items}
-use Rattle.arrayvec.specs.ArrayVec.{with_items}
-use Rattle.tally.specs.Book.{numbered}
+use Rattle.std.proofs.Common.{arith}
 use Rattle.tally.specs.Events.{trading}
-use Rattle.tally.specs.Questions.{traded_account}
 use Rattle.tally.specs.Steps.{done}
-use Rattle.tally.proofs.Facts.{length_numbered}
 use Rattle.ledger.specs.Ledgers.{view, terms_of}
-use Rattle.ledger.specs.Reached.{viewed}
 use Rattle.ledger.proofs.Reaching.{goes_on}
 use Rattle.ledger.proofs.Tables.{registers}
 use Rattle.ledger.proofs.Trading.{taken, entered}

@@ -1,12 +1,10 @@
-use Rattle.std.proofs.Common.{◌≡◌, ℕ, true, length, Some, refl, ap, ◌∙◌}
-use Rattle.arrayvec.specs.ArrayVec.{with_items}
+use Rattle.std.proofs.Common.{◌≡◌, ℕ, length, Some, refl, ap, ◌∙◌}
 use Rattle.money.specs.Ranges.{is_rate}
 use Rattle.tally.specs.Events.{expiring}
 use Rattle.tally.specs.Pages.{by_expiry, page, roll}
-use Rattle.tally.specs.Steps.{done, expire}
+use Rattle.tally.specs.Steps.{done}
 use Rattle.ledger.specs.declared.owed.Settling.TheVariants.{Expiry}
 use Rattle.ledger.specs.Ledgers.{view, terms_of}
-use Rattle.ledger.specs.Reached.{viewed}
 use Rattle.ledger.specs.Told.{over}
 use Rattle.ledger.proofs.Closing.{expired_view, expiry_met, owed_many, page_rows, page_sums, price_is}
 use Rattle.ledger.proofs.Paying.{of_some}

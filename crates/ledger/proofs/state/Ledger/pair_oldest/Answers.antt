@@ -1,10 +1,6 @@
-use Rattle.std.proofs.Common.{◌≡◌, length, is_some, sym, refl, ap, ◌∙◌}
-use Rattle.arrayvec.specs.ArrayVec.{with_items}
-use Rattle.arrayvec.proofs.ArrayVecLemmas.{items-with_items}
-use Rattle.tally.specs.Book.{numbered}
+use Rattle.std.proofs.Common.{is_some, sym, refl, ap, ◌∙◌}
 use Rattle.tally.specs.Events.{designating}
-use Rattle.tally.specs.Steps.{done, designated_account}
-use Rattle.tally.proofs.Facts.{length_numbered}
+use Rattle.tally.specs.Steps.{done}
 use Rattle.ledger.specs.Ledgers.{view, terms_of}
 use Rattle.ledger.proofs.Designating.{is_designated, oldest_answer, pair, paired_off}
 use Rattle.ledger.proofs.Reaching.{goes_on}
