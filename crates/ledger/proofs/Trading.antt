@@ -15,10 +15,11 @@ use Rattle.tally.specs.Law.{Registered}
 use Rattle.tally.specs.Questions.{at_most_3000, find, net_of, nobody, opens_lot, questions, registered, traded_account, verdict}
 use Rattle.tally.specs.Steps.{trade}
 use Rattle.tally.proofs.Facts.{get_d_numbered, length_numbered, met}
+use Rattle.ledger.specs.Limits.{InLimits}
 use Rattle.ledger.specs.declared.state.Ledger.{Ledger}
 use Rattle.ledger.specs.Ledgers.{view, terms_of}
 use Rattle.ledger.specs.Reached.{viewed}
-use Rattle.ledger.specs.Trades.{InLimits, are_parties, buyer_net, keeps_day_limits, keeps_limits, seller_net}
+use Rattle.ledger.specs.Trades.{are_parties, buyer_net, keeps_day_limits, keeps_limits, seller_net}
 use Rattle.ledger.proofs.Changes.{handed_back, numbered_both}
 use Rattle.ledger.proofs.Tables.{bounded, contracts, is_registered, registers}
 

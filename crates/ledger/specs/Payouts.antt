@@ -1,7 +1,7 @@
 -- What a page of a ledger owes its accounts.
 use Rattle.std.specs.Prelude.{ℕ, List}
 use Rattle.tally.specs.Book.{numbered}
-use Rattle.ledger.specs.declared.owed.Owed.{Owed}
+use Rattle.tally.specs.Pages.{Owed}
 use Rattle.ledger.specs.declared.owed.Settling.{Settling}
 use Rattle.ledger.specs.declared.state.Ledger.{Ledger}
 use Rattle.ledger.specs.Ledgers.{view}

@@ -1,10 +1,9 @@
 // Paying a page: two lines for each account, and what they come to.
 ghost use Rattle.std.specs.Prelude.{◌≡◌, ◌+◌, ◌≤◌, length, unsigned_abs};
 ghost use Rattle.std.specs.Simd.Lanes.{zip2};
-ghost use Rattle.std.specs.List.{AllByRecursion};
 ghost use Rattle.money.specs.Pays.{payment_of};
 ghost use Rattle.tally.specs.Pages.{paid_as, sums as sums_of};
-ghost use Rattle.ledger.specs.Owings.{OwedIn, PaidIn, SumsIn, lines_to, row_to, plus_line};
+ghost use Rattle.ledger.specs.Owings.{PaidIn, SumsIn, lines_to, row_to, plus_line};
 ghost use Rattle.ledger.specs.Told.{over};
 
 use crate::owed::Owed;
@@ -60,7 +59,6 @@ pub(crate) fn pay_page(
 ) -> Sums
     requires few { length accounts.now ≤ 64 }
     requires beside { length owed.now ≡ length accounts.now }
-    requires owed { AllByRecursion OwedIn owed.now }
     requires page { length accounts.now ≤ length page.old }
     ensures page { page.new ≡ over (zip2 (row_to currency rate.millionths) accounts.now owed.now) page.old }
     ensures sums { result ≡ sums_of (lines_to currency rate.millionths accounts.now owed.now) }
@@ -73,8 +71,9 @@ pub(crate) fn pay_page(
     };
     for (i, account) in accounts.iter().enumerate() {
         let payee = account.residency;
-        let day_trade = pay_line(owed[i].day_trade, currency, payee, rate);
-        let margin = pay_line(owed[i].margin, currency, payee, rate);
+        let owed = owed[i];
+        let day_trade = pay_line(owed.day_trade, currency, payee, rate);
+        let margin = pay_line(owed.margin, currency, payee, rate);
         page[i] = PageRow {
             day_trade: day_trade.paid,
             margin: margin.paid,

@@ -1,9 +1,9 @@
 // What a page leaves of the accounts.
-ghost use Rattle.std.specs.Prelude.{◌≡◌, ◌+◌, ◌≤◌, length, take, ◌+ℤ◌, unsigned_abs};
+ghost use Rattle.std.specs.Prelude.{◌≡◌, ◌≤◌, length, ◌+ℤ◌, unsigned_abs};
 ghost use Rattle.std.specs.Simd.Lanes.{zip2};
 ghost use Rattle.std.specs.List.{AllByRecursion};
-ghost use Rattle.ledger.specs.Owings.{AccountIn, OwedIn, settled_with};
-ghost use Rattle.ledger.specs.Told.{over};
+ghost use Rattle.ledger.specs.Limits.{AccountIn};
+ghost use Rattle.ledger.specs.Owings.{settled_with};
 
 use crate::owed::{Owed, Settling};
 use crate::state::notices::net;
@@ -11,8 +11,7 @@ use tally::rows::Account;
 
 // A total with both amounts added.
 fn total(before: i64, owed: Owed) -> i64
-    requires before { unsigned_abs before ≤ 1000000000000000 }
-    requires owed { OwedIn owed }
+    requires { unsigned_abs before ≤ 1000000000000000 }
     ensures { result ≡ before +ℤ (owed.day_trade +ℤ owed.margin) }
 {
     before + (owed.day_trade + owed.margin)
@@ -20,8 +19,7 @@ fn total(before: i64, owed: Owed) -> i64
 
 // An account after a page: a marking carries its net over and clears the session, an expiry leaves nothing carried.
 fn settled(account: Account, owed: Owed, settling: Settling) -> Account
-    requires account { AccountIn account }
-    requires owed { OwedIn owed }
+    requires { AccountIn account }
     ensures { result ≡ settled_with settling account owed }
 {
     let (carried, bought, sold) = match settling {
@@ -42,7 +40,6 @@ fn settled(account: Account, owed: Owed, settling: Settling) -> Account
 pub(crate) fn settle_accounts(accounts: &mut [Account], owed: &[Owed], settling: Settling)
     requires beside { length owed.now ≡ length accounts.old }
     requires accounts { AllByRecursion AccountIn accounts.old }
-    requires owed { AllByRecursion OwedIn owed.now }
     ensures { accounts.new ≡ zip2 (settled_with settling) accounts.old owed.now }
 {
     for (i, account) in accounts.iter_mut().enumerate() {

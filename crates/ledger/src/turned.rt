@@ -4,7 +4,8 @@ ghost use Rattle.std.specs.List.{AllByRecursion};
 ghost use Rattle.tally.specs.Account.{long};
 ghost use Rattle.tally.specs.Questions.{opens_lot};
 ghost use Rattle.tally.specs.Steps.{aged as aged_by, turned as turned_by};
-ghost use Rattle.ledger.specs.Owings.{ContractsIn, changed};
+ghost use Rattle.ledger.specs.Limits.{InLimits};
+ghost use Rattle.ledger.specs.Owings.{changed};
 
 use crate::state::LOT_ROWS;
 use crate::state::notices::net;
@@ -17,7 +18,7 @@ fn holding(contracts: i64) -> u32
     ensures value { result ≡ long contracts }
     ensures below { result ≤ 9000 }
 {
-    if contracts > 0 { contracts as u32 } else { 0 }
+    contracts.max(0) as u32
 }
 
 // Turns the lots of one account: more long contracts are a new lot of the session, fewer go from its oldest.
@@ -43,8 +44,7 @@ fn turn_account(lots: &mut Line<Lot, LOT_ROWS>, owner: usize, session: u32, befo
 
 // Turns the lots of each account, in number order.
 pub(crate) fn turn_lots(accounts: &[Account], session: u32, lots: &mut Line<Lot, LOT_ROWS>)
-    requires few { length accounts.now ≤ 64 }
-    requires contracts { AllByRecursion ContractsIn accounts.now }
+    requires contracts { AllByRecursion InLimits accounts.now }
     requires room { length lots.old + count_by opens_lot accounts.now ≤ 1024 }
     ensures { lots.new ≡ turned_by session 1 (map changed accounts.now) lots.old }
 {

@@ -1,11 +1,12 @@
 // Giving notice of delivery: its questions, and its row.
-ghost use Rattle.std.specs.Prelude.{◌≡◌, ℕ, ◌+◌, ◌≤◌, Bool, true, false, length, is_ok, None, nat_le, nat_lt, unsigned_abs};
+ghost use Rattle.std.specs.Prelude.{◌≡◌, ℕ, ◌+◌, ◌≤◌, Bool, true, false, length, is_ok, None, nat_le, nat_lt};
 ghost use Rattle.tally.specs.Account.{short};
 ghost use Rattle.tally.specs.Questions.{between, find, net_of, registered as is_registered, under_notice as noticed_by};
 ghost use Rattle.tally.specs.Events.{noticing};
 ghost use Rattle.tally.specs.Questions.{verdict};
 ghost use Rattle.tally.specs.Runs.{after, reply};
 ghost use Rattle.tally.specs.Steps.{notice};
+ghost use Rattle.ledger.specs.Limits.{InLimits};
 ghost use Rattle.ledger.specs.Ledgers.{view, terms_of};
 ghost use Rattle.ledger.specs.Told.{judged, plainly, told};
 
@@ -23,7 +24,7 @@ pub(crate) fn is_counted(contracts: u64) -> bool
 
 // Carried plus bought minus sold in the open session.
 pub(crate) fn net(account: Account) -> i64
-    requires { (unsigned_abs account.carried ≤ 3000) × (account.bought ≤ 3000) × (account.sold ≤ 3000) }
+    requires { InLimits account }
     ensures { result ≡ net_of account }
 {
     account.carried + i64::from(account.bought) - i64::from(account.sold)

@@ -8,11 +8,12 @@ ghost use Rattle.tally.specs.Law.{Registered};
 ghost use Rattle.tally.specs.Questions.{at_most_3000, between, find, nobody, opens_lot, traded_account, under_notice as noticed_by, verdict};
 ghost use Rattle.tally.specs.Runs.{after, reply};
 ghost use Rattle.tally.specs.Steps.{trade as traded_on};
+ghost use Rattle.ledger.specs.Limits.{InLimits};
 ghost use Rattle.ledger.specs.Ledgers.{view, terms_of};
 ghost use Rattle.ledger.specs.Told.{judged, plainly, told};
-ghost use Rattle.ledger.specs.Trades.{InLimits, are_parties, buyer_net, keeps_day_limits, keeps_limits, seller_net};
+ghost use Rattle.ledger.specs.Trades.{are_parties, buyer_net, keeps_day_limits, keeps_limits, seller_net};
 
-use crate::sheet::{Side, contracts_on};
+use crate::sheet::Side;
 use crate::state::notices::{is_counted, net, shortage};
 use crate::state::{LOT_ROWS, Ledger, MAX_CONTRACTS, SHEET_ROWS};
 use money::units::Price;
@@ -33,8 +34,8 @@ fn traded(trade: Trade, number: usize, account: Account) -> Account
     ensures { result ≡ traded_account trade number account }
 {
     Account {
-        bought: account.bought + contracts_on(trade, number, Side::Bought) as u32,
-        sold: account.sold + contracts_on(trade, number, Side::Sold) as u32,
+        bought: account.bought + Side::Bought.contracts(&trade, number) as u32,
+        sold: account.sold + Side::Sold.contracts(&trade, number) as u32,
         ..account
     }
 }

@@ -8,7 +8,7 @@ use Rattle.ledger.specs.Told.{over}
 use Rattle.ledger.proofs.Closing.{marked_view, marking_met, owed_many, page_rows, page_sums}
 use Rattle.ledger.proofs.Paying.{of_some}
 use Rattle.ledger.proofs.Reaching.{goes_on}
-use Rattle.ledger.proofs.Standing.{accounts_in, contracts_in, few_accounts, few_lots, session_in}
+use Rattle.ledger.proofs.Standing.{accounts_in, contracts_in, few_lots, session_in}
 use Rattle.ledger.proofs.state.Ledger.close_session.Goals as goal
 
 pub unwrap-price-requires : goal.unwrap-price-requires
@@ -22,22 +22,20 @@ pay-sums-requires c =
     let l = c.args.self.now in
     rw c.as_slice.ensures.value
     (record {
-      beside = owed_many l Marking c.unwrap-price.result.cents c.owed-owed.ensures.owed;
-      owed = c.owed-owed.ensures.within;
+      beside = owed_many l Marking c.unwrap-price.result.cents c.owed-owed.ensures;
       page = (marking_met l c.args.marking _ c.requires).room;
     })
 
 pub turn_lots-requires : goal.turn_lots-requires
-turn_lots-requires c = let l = c.args.self.now in rw c.as_slice-2.ensures.value (record { few = few_accounts l; contracts = contracts_in l; room = few_lots l })
+turn_lots-requires c = let l = c.args.self.now in rw c.as_slice-2.ensures.value (record { contracts = contracts_in l; room = few_lots l })
 
 pub settle_accounts-requires : goal.settle_accounts-requires
 settle_accounts-requires c =
     let l = c.args.self.now in
     rw (c.as_mut_slice.ensures.value, c.as_slice-3.ensures.value)
     (record {
-      beside = owed_many l Marking c.unwrap-price.result.cents c.owed-owed.ensures.owed;
+      beside = owed_many l Marking c.unwrap-price.result.cents c.owed-owed.ensures;
       accounts = accounts_in l;
-      owed = c.owed-owed.ensures.within;
     })
 
 pub overflow_add-self : goal.overflow_add-self
@@ -50,7 +48,7 @@ invariant_of-self c =
     let m = c.args.marking in
     let price = of_some c.new.result c.unwrap-price.result _ _ c.new.ensures.some c.unwrap-price.ensures in
     let rate = of_some c.new-2.result c.unwrap-rate.result _ _ c.new-2.ensures.some c.unwrap-rate.ensures in
-    let left = marked_view l m price c.owed-owed.ensures.owed c.settle_accounts.ensures c.as_mut_slice.ensures.value c.as_slice-3.ensures.value c.clear.ensures c.turn_lots.ensures c.as_slice-2.ensures.value c.cents-self.ensures.value (c.millionths-self.ensures.value ∙ rate) in
+    let left = marked_view l m price c.owed-owed.ensures c.settle_accounts.ensures c.as_mut_slice.ensures.value c.as_slice-3.ensures.value c.clear.ensures c.turn_lots.ensures c.as_slice-2.ensures.value c.cents-self.ensures.value (c.millionths-self.ensures.value ∙ rate) in
     record { reached = goes_on (terms_of l) (view l) (marking m (length c.args.page.now)) tt c.requires left l.reached }
 
 pub returns : goal.returns
@@ -61,10 +59,10 @@ returns c =
     let rate = of_some c.new-2.result c.unwrap-rate.result _ _ c.new-2.ensures.some c.unwrap-rate.ensures in
     let p = c.unwrap-price.result.cents in
     let r = c.unwrap-rate.result.millionths in
-    let owed = c.as_slice.ensures.value ∙ c.owed-owed.ensures.owed in
+    let owed = c.as_slice.ensures.value ∙ c.owed-owed.ensures in
     let paid = λ (i j : ℕ). page (terms_of l) j (by_marking (terms_of l) (view l) i) (roll (view l)) in
     record {
-      view = marked_view l m price c.owed-owed.ensures.owed c.settle_accounts.ensures c.as_mut_slice.ensures.value c.as_slice-3.ensures.value c.clear.ensures c.turn_lots.ensures c.as_slice-2.ensures.value c.cents-self.ensures.value (c.millionths-self.ensures.value ∙ rate);
+      view = marked_view l m price c.owed-owed.ensures c.settle_accounts.ensures c.as_mut_slice.ensures.value c.as_slice-3.ensures.value c.clear.ensures c.turn_lots.ensures c.as_slice-2.ensures.value c.cents-self.ensures.value (c.millionths-self.ensures.value ∙ rate);
       terms = refl;
       page = c.pay-sums.ensures.page ∙ ap (λ rows. over rows c.args.page.now) (page_rows l Marking p owed r ∙ ap (λ (i : ℕ). (paid i r).rows) price ∙ ap (λ (j : ℕ). (paid m.price j).rows) rate);
       sums = c.pay-sums.ensures.sums ∙ page_sums l Marking p owed r ∙ ap (λ (i : ℕ). (paid i r).totals) price ∙ ap (λ (j : ℕ). (paid m.price j).totals) rate;

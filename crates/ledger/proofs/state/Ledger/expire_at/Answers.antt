@@ -21,8 +21,7 @@ pay-sums-requires c =
     let l = c.args.self.now in
     rw c.as_slice.ensures.value
     (record {
-      beside = owed_many l Expiry c.args.price.cents c.owed-owed.ensures.owed;
-      owed = c.owed-owed.ensures.within;
+      beside = owed_many l Expiry c.args.price.cents c.owed-owed.ensures;
       page = (expiry_met l c.args.price.cents _ c.requires).room;
     })
 
@@ -31,9 +30,8 @@ settle_accounts-requires c =
     let l = c.args.self.now in
     rw (c.as_mut_slice.ensures.value, c.as_slice-2.ensures.value)
     (record {
-      beside = owed_many l Expiry c.args.price.cents c.owed-owed.ensures.owed;
+      beside = owed_many l Expiry c.args.price.cents c.owed-owed.ensures;
       accounts = accounts_in l;
-      owed = c.owed-owed.ensures.within;
     })
 
 pub invariant_of-self : goal.invariant_of-self
@@ -41,18 +39,18 @@ unfolding done
 invariant_of-self c =
     let l = c.args.self.now in
     let p = c.args.price.cents in
-    record { reached = goes_on (terms_of l) (view l) (expiring (Some p) (length c.args.page.now)) (price_is p c.args.price.within) c.requires (expired_view l p c.owed-owed.ensures.owed c.settle_accounts.ensures c.as_mut_slice.ensures.value c.as_slice-2.ensures.value c.clear.ensures.after) l.reached }
+    record { reached = goes_on (terms_of l) (view l) (expiring (Some p) (length c.args.page.now)) (price_is p c.args.price.within) c.requires (expired_view l p c.owed-owed.ensures c.settle_accounts.ensures c.as_mut_slice.ensures.value c.as_slice-2.ensures.value c.clear.ensures.after) l.reached }
 
 pub returns : goal.returns
 returns c =
     let l = c.args.self.now in
     let p = c.args.price.cents in
-    let owed = c.as_slice.ensures.value ∙ c.owed-owed.ensures.owed in
+    let owed = c.as_slice.ensures.value ∙ c.owed-owed.ensures in
     let r = c.unwrap-rate.result.millionths in
     let rate : r ≡ l.rate = of_some c.new.result c.unwrap-rate.result _ _ c.new.ensures.some c.unwrap-rate.ensures ∙ c.from.ensures in
     let paid = λ (j : ℕ). page (terms_of l) j (by_expiry (terms_of l) (view l) p) (roll (view l)) in
     record {
-      view = expired_view l p c.owed-owed.ensures.owed c.settle_accounts.ensures c.as_mut_slice.ensures.value c.as_slice-2.ensures.value c.clear.ensures.after;
+      view = expired_view l p c.owed-owed.ensures c.settle_accounts.ensures c.as_mut_slice.ensures.value c.as_slice-2.ensures.value c.clear.ensures.after;
       terms = refl;
       page = c.pay-sums.ensures.page ∙ ap (λ rows. over rows c.args.page.now) (page_rows l Expiry p owed r ∙ ap (λ (j : ℕ). (paid j).rows) rate);
       sums = c.pay-sums.ensures.sums ∙ page_sums l Expiry p owed r ∙ ap (λ (j : ℕ). (paid j).totals) rate;
