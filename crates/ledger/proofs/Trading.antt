@@ -12,9 +12,9 @@ use Rattle.tally.specs.declared.rows.Trade.{Trade}
 use Rattle.tally.specs.Book.{numbered}
 use Rattle.tally.specs.Events.{trading}
 use Rattle.tally.specs.Law.{Registered}
-use Rattle.tally.specs.Questions.{at_most_3000, find, net_of, nobody, opens_lot, questions, registered, traded_account, verdict}
+use Rattle.tally.specs.Questions.{at_most_3000, between, find, net_of, nobody, opens_lot, questions, registered, traded_account, verdict}
 use Rattle.tally.specs.Steps.{trade}
-use Rattle.tally.proofs.Facts.{get_d_numbered, length_numbered, met}
+use Rattle.tally.proofs.Facts.{between_is, get_d_numbered, length_numbered, met}
 use Rattle.ledger.specs.Limits.{InLimits}
 use Rattle.ledger.specs.declared.state.Ledger.{Ledger}
 use Rattle.ledger.specs.Ledgers.{view, terms_of}
@@ -36,8 +36,17 @@ parties l t e =
     record { buyer = p.0; seller = q.0; apart = eqb-false t.buyer t.seller (not-true (eqb t.buyer t.seller) q.1) }
 
 -- the net of an account is within its limit
-pub net_within : (l : Ledger) (k : ℕ) → registered (view l) k ≡ true → nat_abs (net_of (find (view l) k)) ≤ 3000
+net_within : (l : Ledger) (k : ℕ) → registered (view l) k ≡ true → nat_abs (net_of (find (view l) k)) ≤ 3000
 net_within l k e = ∥∥₁_elim l.reached le_prop (λ x. let b = ((bounded (terms_of l) (view l) x).accounts_in k (registers l k e)).net_in in omega (arith, ints, b.0, b.1))
+
+-- what is known of the nets of the two sides, and of the contracts
+pub record Nets (l : Ledger) (t : Trade) : Type 0 where
+  pub buyer : nat_abs (net_of (find (view l) t.buyer)) ≤ 3000
+  pub seller : nat_abs (net_of (find (view l) t.seller)) ≤ 3000
+  pub few : t.contracts ≤ 3000
+
+pub nets : (l : Ledger) (t : Trade) → are_parties (view l) t ≡ true → between 1 3000 t.contracts ≡ true → Nets l t
+nets l t e k = let p = parties l t e in record { buyer = net_within l t.buyer p.buyer; seller = net_within l t.seller p.seller; few = (between_is 1 3000 t.contracts k).1 }
 
 -- the tick that a book is built on is not 0
 pub ticked : (l : Ledger) → 1 ≤ (terms_of l).tick

@@ -32,6 +32,16 @@ impl Model for Owed {
     ghost inverse = { λ o. record { day_trade = o.day_trade; margin = o.margin } };
 }
 
+impl Owed {
+    // Both amounts together.
+    pub(crate) fn total(self) -> i64
+        ensures value { result ≡ self.day_trade +ℤ self.margin }
+        ensures below { unsigned_abs result ≤ 1200000000000 }
+    {
+        self.day_trade + self.margin
+    }
+}
+
 // What a page settles: the open session, by its marking, or the contract, by its expiry.
 // An enum, and no closure for each step: a closure's bounds and results would stand in clauses of its own at both calls.
 #[derive(Clone, Copy)]

@@ -8,7 +8,7 @@ ghost use Rattle.ledger.specs.Payouts.{owed_by};
 ghost use Rattle.ledger.specs.Told.{over};
 
 use crate::owed::{Owed, Settling, Valuation};
-use crate::pages::pay_page;
+use crate::pages::Conversion;
 use crate::sheet::Sheet;
 use crate::state::{ACCOUNTS, Ledger};
 use arrayvec::ArrayVec;
@@ -45,6 +45,10 @@ impl Ledger {
         ensures page { page.new ≡ over (zip2 (row_to self.now.terms.currency rate.millionths) (view self.now).accounts owed.now) page.old }
         ensures sums { result ≡ sums_of (lines_to self.now.terms.currency rate.millionths (view self.now).accounts owed.now) }
     {
-        pay_page(self.accounts(), owed, self.terms.currency, rate, page)
+        let conversion = Conversion {
+            currency: self.terms.currency,
+            rate,
+        };
+        conversion.pay_page(self.accounts(), owed, page)
     }
 }

@@ -77,6 +77,86 @@ fn hand_over(accounts: &mut [Account], trade: Trade)
     accounts[trade.seller - 1].sold += contracts;
 }
 
+// A trade put to a ledger: between two registered accounts, of contracts that can be counted.
+#[derive(Clone, Copy)]
+struct Deal<'a> {
+    ledger: &'a Ledger,
+    trade: Trade,
+    ghost parties: { are_parties (view ledger.now) trade ≡ true },
+    ghost counted: { between 1 3000 trade.contracts ≡ true },
+}
+
+impl<'a> Deal<'a> {
+    // The buyer's account.
+    fn buyer(&self) -> Account
+        ensures { result ≡ find (view self.now.ledger.now) self.now.trade.buyer }
+    {
+        self.ledger.account(self.trade.buyer)
+    }
+
+    // The seller's account.
+    fn seller(&self) -> Account
+        ensures { result ≡ find (view self.now.ledger.now) self.now.trade.seller }
+    {
+        self.ledger.account(self.trade.seller)
+    }
+
+    // The net of the buyer after the trade.
+    fn buyer_net(&self) -> i64
+        ensures { result ≡ buyer_net (view self.now.ledger.now) self.now.trade }
+    {
+        self.ledger.net_of(self.trade.buyer) + self.trade.contracts as i64
+    }
+
+    // The net of the seller after the trade.
+    fn seller_net(&self) -> i64
+        ensures { result ≡ seller_net (view self.now.ledger.now) self.now.trade }
+    {
+        self.ledger.net_of(self.trade.seller) - self.trade.contracts as i64
+    }
+
+    // Whether the buyer's purchases and the seller's sales of the day stay within the limit.
+    fn keeps_day_limits(&self) -> bool
+        ensures { result ≡ keeps_day_limits (view self.now.ledger.now) self.now.trade }
+    {
+        let bought = u64::from(self.buyer().bought);
+        let sold = u64::from(self.seller().sold);
+        let contracts = self.trade.contracts;
+        bought + contracts <= MAX_CONTRACTS && sold + contracts <= MAX_CONTRACTS
+    }
+
+    // Whether both sides stay within the limits, net and in the day.
+    fn keeps_limits(&self) -> bool
+        ensures { result ≡ keeps_limits (view self.now.ledger.now) self.now.trade }
+    {
+        is_limited(self.buyer_net()) && is_limited(self.seller_net()) && self.keeps_day_limits()
+    }
+
+    // Whether the buyer stays short what it has under notice.
+    fn stays_covered(&self) -> bool
+        ensures { result ≡ nat_le (noticed_by self.now.trade.buyer (view self.now.ledger.now).notices) (short (buyer_net (view self.now.ledger.now) self.now.trade)) }
+    {
+        let short = shortage(self.buyer_net());
+        self.ledger.under_notice(self.trade.buyer) <= u128::from(short)
+    }
+
+    // Whether the trade opens nothing to deliver: the seller ends with no short contract, and neither side has traded the other way that day.
+    fn opens_no_delivery(&self) -> bool
+        ensures { result ≡ (short (seller_net (view self.now.ledger.now) self.now.trade) == 0 && ((find (view self.now.ledger.now) self.now.trade.buyer).sold == 0 && (find (view self.now.ledger.now) self.now.trade.seller).bought == 0)) }
+    {
+        shortage(self.seller_net()) == 0 && self.buyer().sold == 0 && self.seller().bought == 0
+    }
+
+    // Whether the lots have room for those that a marking would open after the trade.
+    fn has_lot_room(&self) -> bool
+        requires { keeps_limits (view self.now.ledger.now) self.now.trade ≡ true }
+        ensures { result ≡ nat_le (length (view self.now.ledger.now).lots + count_by opens_lot (numbered (traded_account self.now.trade) 1 (view self.now.ledger.now).accounts)) 1024 }
+    {
+        let ledger = self.ledger;
+        ledger.lots().len() + lots_opened(ledger.accounts(), self.trade) <= LOT_ROWS
+    }
+}
+
 impl Ledger {
     // Whether both sides are registered, and two accounts.
     fn are_parties(&self, trade: Trade) -> bool
@@ -101,81 +181,11 @@ impl Ledger {
         self.sheet.len() < SHEET_ROWS
     }
 
-    // The net of the buyer after the trade.
-    fn buyer_net(&self, trade: Trade) -> i64
-        requires parties { are_parties (view self.now) trade ≡ true }
-        requires counted { between 1 3000 trade.contracts ≡ true }
-        ensures { result ≡ buyer_net (view self.now) trade }
-    {
-        self.net_of(trade.buyer) + trade.contracts as i64
-    }
-
-    // The net of the seller after the trade.
-    fn seller_net(&self, trade: Trade) -> i64
-        requires parties { are_parties (view self.now) trade ≡ true }
-        requires counted { between 1 3000 trade.contracts ≡ true }
-        ensures { result ≡ seller_net (view self.now) trade }
-    {
-        self.net_of(trade.seller) - trade.contracts as i64
-    }
-
-    // Whether the buyer's purchases and the seller's sales of the day stay within the limit.
-    fn keeps_day_limits(&self, trade: Trade) -> bool
-        requires parties { are_parties (view self.now) trade ≡ true }
-        requires counted { between 1 3000 trade.contracts ≡ true }
-        ensures { result ≡ keeps_day_limits (view self.now) trade }
-    {
-        let bought = u64::from(self.account(trade.buyer).bought);
-        let sold = u64::from(self.account(trade.seller).sold);
-        bought + trade.contracts <= MAX_CONTRACTS && sold + trade.contracts <= MAX_CONTRACTS
-    }
-
-    // Whether both sides stay within the limits, net and in the day.
-    fn keeps_limits(&self, trade: Trade) -> bool
-        requires parties { are_parties (view self.now) trade ≡ true }
-        requires counted { between 1 3000 trade.contracts ≡ true }
-        ensures { result ≡ keeps_limits (view self.now) trade }
-    {
-        is_limited(self.buyer_net(trade))
-            && is_limited(self.seller_net(trade))
-            && self.keeps_day_limits(trade)
-    }
-
-    // Whether the buyer stays short what it has under notice.
-    fn stays_covered(&self, trade: Trade) -> bool
-        requires parties { are_parties (view self.now) trade ≡ true }
-        requires counted { between 1 3000 trade.contracts ≡ true }
-        ensures { result ≡ nat_le (noticed_by trade.buyer (view self.now).notices) (short (buyer_net (view self.now) trade)) }
-    {
-        let short = shortage(self.buyer_net(trade));
-        self.under_notice(trade.buyer) <= u128::from(short)
-    }
-
     // Whether the open session is the last one of a contract that is delivered.
     fn is_last_before_delivery(&self) -> bool
         ensures { result ≡ ((view self.now).session == (terms_of self.now).last && (terms_of self.now).delivers) }
     {
         u64::from(self.session) == self.terms.last && self.terms.delivers
-    }
-
-    // Whether a trade opens nothing to deliver: the seller ends with no short contract, and neither side has traded the other way that day.
-    fn opens_no_delivery(&self, trade: Trade) -> bool
-        requires parties { are_parties (view self.now) trade ≡ true }
-        requires counted { between 1 3000 trade.contracts ≡ true }
-        ensures { result ≡ (short (seller_net (view self.now) trade) == 0 && ((find (view self.now) trade.buyer).sold == 0 && (find (view self.now) trade.seller).bought == 0)) }
-    {
-        shortage(self.seller_net(trade)) == 0
-            && self.account(trade.buyer).sold == 0
-            && self.account(trade.seller).bought == 0
-    }
-
-    // Whether the lots have room for those that a marking would open after the trade.
-    fn has_lot_room(&self, trade: Trade) -> bool
-        requires parties { are_parties (view self.now) trade ≡ true }
-        requires limits { keeps_limits (view self.now) trade ≡ true }
-        ensures { result ≡ nat_le (length (view self.now).lots + count_by opens_lot (numbered (traded_account trade) 1 (view self.now).accounts)) 1024 }
-    {
-        self.lots.as_slice().len() + lots_opened(self.accounts.as_slice(), trade) <= LOT_ROWS
     }
 
     // Why a trade is not taken, if it is not.
@@ -195,19 +205,23 @@ impl Ledger {
         if !is_counted(trade.contracts) {
             return Err(Refusal::Uncounted);
         }
+        let deal = Deal {
+            ledger: self,
+            trade,
+        };
         if !self.has_sheet_room() {
             return Err(Refusal::SheetFull);
         }
-        if !self.keeps_limits(trade) {
+        if !deal.keeps_limits() {
             return Err(Refusal::OverLimit);
         }
-        if !self.stays_covered(trade) {
+        if !deal.stays_covered() {
             return Err(Refusal::Uncovered);
         }
-        if self.is_last_before_delivery() && !self.opens_no_delivery(trade) {
+        if self.is_last_before_delivery() && !deal.opens_no_delivery() {
             return Err(Refusal::LastSession);
         }
-        if !self.has_lot_room(trade) {
+        if !deal.has_lot_room() {
             return Err(Refusal::LotsFull);
         }
         Ok(())

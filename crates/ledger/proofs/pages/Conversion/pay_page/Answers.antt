@@ -5,7 +5,7 @@ use Rattle.tally.specs.Pages.{Owed}
 use Rattle.ledger.specs.Owings.{row_to}
 use Rattle.ledger.proofs.Beside.{write_more, write_all}
 use Rattle.ledger.proofs.Paying.{lines_next, lines_all, read_signed, row_is, sums_first, sums_both, sums_within}
-use Rattle.ledger.proofs.pages.pay_page.Goals as goal
+use Rattle.ledger.proofs.pages.Conversion.pay_page.Goals as goal
 
 pub add_line-sums-requires : goal.add_line-sums-requires
 add_line-sums-requires c =
@@ -20,8 +20,8 @@ loop-i-preserved c =
     let i = c.loop-i.i in
     let xs = c.args.accounts.now in
     let os = c.args.owed.now in
-    let currency = c.args.currency in
-    let rate = c.args.rate.millionths in
+    let currency = c.args.self.currency in
+    let rate = c.args.self.rate.millionths in
     let a = get_or xs i nobody in
     let blank = c.index-owed-i.result in
     let o = get_or os i blank in
@@ -41,6 +41,6 @@ loop-i-preserved c =
 
 pub returns : goal.returns
 returns c = record {
-  page = write_all (row_to c.args.currency c.args.rate.millionths) c.args.accounts.now c.args.owed.now c.args.page.now c.loop-i.page c.loop-i.i (omega arith) c.requires.beside c.loop-i.invariant.0;
-  sums = lines_all c.args.currency c.args.rate.millionths c.args.accounts.now c.args.owed.now c.loop-i.i c.loop-i.sums c.loop-i-test.false c.loop-i.invariant.1;
+  page = write_all (row_to c.args.self.currency c.args.self.rate.millionths) c.args.accounts.now c.args.owed.now c.args.page.now c.loop-i.page c.loop-i.i (omega arith) c.requires.beside c.loop-i.invariant.0;
+  sums = lines_all c.args.self.currency c.args.self.rate.millionths c.args.accounts.now c.args.owed.now c.loop-i.i c.loop-i.sums c.loop-i-test.false c.loop-i.invariant.1;
 }
