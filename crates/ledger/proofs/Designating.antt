@@ -1,5 +1,5 @@
 -- A designation that is due: there is a lot for it, and what its rows make of the view.
-use Rattle.std.proofs.Common.{◌≡◌, ℕ, ◌-◌, ◌≤◌, true, List, [], ◌∷◌, ◌++◌, length, get_or, set, ℤ, is_some, Some, None, Ok, Option, sym, refl, ap, ◌∙◌, subst, arith}
+use Rattle.std.proofs.Common.{◌≡◌, ℕ, ◌-◌, ◌≤◌, true, List, [], ◌∷◌, ◌++◌, length, get_or, set, ℤ, pos, ◌-ℤ◌, neg_ℤ, is_some, Some, None, Ok, Option, sym, refl, ap, ◌∙◌, subst, arith}
 use mathlib.Core.Logic.{∥∥₁_elim}
 use native.Mathlib.Bridge.{le_prop}
 use borrow.Author.Differences.{ints}
@@ -22,7 +22,7 @@ use Rattle.tally.specs.Steps.{designate, designate_oldest, designated_account, l
 use Rattle.tally.proofs.Facts.{met}
 use Rattle.tally.proofs.Law.{settled}
 use Rattle.ledger.specs.declared.state.Ledger.{Ledger}
-use Rattle.ledger.specs.Designations.{less_long, less_short}
+use Rattle.ledger.specs.Designations.{carrying}
 use Rattle.ledger.specs.Ledgers.{view, terms_of}
 use Rattle.ledger.specs.Reached.{Reached, viewed}
 use Rattle.ledger.proofs.Changes.{handed_back, numbered_both}
@@ -86,21 +86,30 @@ pair l n lot en el =
       few = ∥∥₁_elim l.reached le_prop (λ x. (noticed x).2);
     }
 
-abbrev carrying : Account → ℤ → Account
-carrying a z = record { identity = a.identity; residency = a.residency; carried = z; bought = a.bought; sold = a.sold; total = a.total }
+abbrev holding : Account → ℤ → Account
+holding a z = record { identity = a.identity; residency = a.residency; carried = z; bought = a.bought; sold = a.sold; total = a.total }
+
+abbrev less_short : Account → ℕ → Account
+less_short a n = carrying a (pos n)
+
+abbrev less_long : Account → ℕ → Account
+less_long a n = holding a (a.carried -ℤ pos n)
 
 -- the seller's row and the owner's, written one after the other, are the accounts after the designation
-pub delivered : (n : Notice) (lot : Lot) (xs : List Account) (m : ℕ) (a b : Account) → Registered (length xs) n.seller → Registered (length xs) lot.owner → m ≡ paired n lot →
-    a ≡ less_short (get_or xs (n.seller - 1) nobody) m → b ≡ less_long (get_or (set xs (n.seller - 1) a) (lot.owner - 1) nobody) m →
+pub delivered : (n : Notice) (lot : Lot) (xs : List Account) {m d : ℤ} {a b : Account} → Registered (length xs) n.seller → Registered (length xs) lot.owner →
+    a ≡ carrying (get_or xs (n.seller - 1) nobody) m → b ≡ carrying (get_or (set xs (n.seller - 1) a) (lot.owner - 1) nobody) d → m ≡ pos (paired n lot) → d ≡ neg_ℤ (pos (paired n lot)) →
     set (set xs (n.seller - 1) a) (lot.owner - 1) b ≡ numbered (designated_account n lot) 1 xs
 unfolding designated_account
-delivered n lot xs m a b rs ro em ea eb =
+delivered n lot xs {a = a} {b = b} rs ro ea eb em ed =
     let i = n.seller - 1 in
     let j = lot.owner - 1 in
-    ap (λ y. set (set xs i a) j y) eb
-    ∙ ap (λ y. set (set xs i y) j (less_long (get_or (set xs i y) j nobody) m)) ea
-    ∙ ap (λ k. set (set xs i (less_short (get_or xs i nobody) k)) j (less_long (get_or (set xs i (less_short (get_or xs i nobody) k)) j nobody) k)) em
-    ∙ sym (numbered_both less_short less_long (λ x. ap (carrying x) (omega (arith, ints))) (λ x. ap (carrying x) (omega (arith, ints))) n.seller lot.owner (paired n lot) xs nobody rs ro)
+    let k = paired n lot in
+    let seller = less_short (get_or xs i nobody) k in
+    let first : a ≡ seller = ea ∙ ap (carrying (get_or xs i nobody)) em in
+    let second : b ≡ less_long (get_or (set xs i seller) j nobody) k =
+    eb ∙ (λ t. carrying (get_or (set xs i (first t)) j nobody) (ed t)) ∙ ap (holding (get_or (set xs i seller) j nobody)) (omega (arith, ints)) in
+    (λ t. set (set xs i (first t)) j (second t))
+    ∙ sym (numbered_both less_short less_long (λ x. ap (holding x) (omega (arith, ints))) (λ x. ap (holding x) (omega (arith, ints))) n.seller lot.owner k xs nobody rs ro)
 
 -- ---- the view and the answer
 oldest_view : (v : View) (n : Notice) (lot : Lot) (ns : List Notice) (ls : List Lot) → first ns ≡ Some n → first ls ≡ Some lot → designate_oldest v ns ls ≡ designate v n lot

@@ -33,7 +33,7 @@ pub(crate) const NOTICE_ROWS: usize = 64;
 pub(crate) const MAX_CONTRACTS: u64 = 3_000;
 
 // What a book is built on: the kind's size, currency, tick and delivery, the last session, and the sessions from and to which notice can be given.
-#[derive(Clone, Copy)]
+#[derive(Clone, Copy, Debug, PartialEq, Eq)]
 pub struct BookTerms {
     pub size: u32,
     pub currency: Currency,

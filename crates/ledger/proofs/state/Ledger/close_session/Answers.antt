@@ -1,29 +1,22 @@
-use Rattle.std.proofs.Common.{ℕ, length, refl, ap, ◌∙◌, arith}
+use Rattle.std.proofs.Common.{length, refl, ap, ◌∙◌, arith}
 use Rattle.tally.specs.Events.{marking}
-use Rattle.tally.specs.Pages.{by_marking, page, roll}
 use Rattle.tally.specs.Steps.{done}
 use Rattle.ledger.specs.declared.owed.Settling.TheVariants.{Marking}
 use Rattle.ledger.specs.Ledgers.{view, terms_of}
+use Rattle.ledger.specs.Payouts.{marking_at}
 use Rattle.ledger.specs.Told.{over}
 use Rattle.ledger.proofs.Closing.{marked_view, marking_met, owed_many, page_rows, page_sums}
-use Rattle.ledger.proofs.Paying.{of_some}
 use Rattle.ledger.proofs.Reaching.{goes_on}
 use Rattle.ledger.proofs.Standing.{accounts_in, contracts_in, few_lots, session_in}
 use Rattle.ledger.proofs.state.Ledger.close_session.Goals as goal
-
-pub unwrap-price-requires : goal.unwrap-price-requires
-unwrap-price-requires c = c.new.ensures.test ∙ (marking_met c.args.self.now c.args.marking _ c.requires).priced
-
-pub unwrap-rate-requires : goal.unwrap-rate-requires
-unwrap-rate-requires c = c.new-2.ensures.test ∙ (marking_met c.args.self.now c.args.marking _ c.requires).rated
 
 pub pay-sums-requires : goal.pay-sums-requires
 pay-sums-requires c =
     let l = c.args.self.now in
     rw c.as_slice.ensures.value
     (record {
-      beside = owed_many l Marking c.unwrap-price.result.cents c.owed-owed.ensures;
-      page = (marking_met l c.args.marking _ c.requires).room;
+      beside = owed_many l Marking c.args.price.cents c.owed-owed.ensures;
+      page = (marking_met l (marking_at c.args.price.cents c.args.rate.millionths) _ c.requires).room;
     })
 
 pub turn_lots-requires : goal.turn_lots-requires
@@ -34,7 +27,7 @@ settle_accounts-requires c =
     let l = c.args.self.now in
     rw (c.as_mut_slice.ensures.value, c.as_slice-3.ensures.value)
     (record {
-      beside = owed_many l Marking c.unwrap-price.result.cents c.owed-owed.ensures;
+      beside = owed_many l Marking c.args.price.cents c.owed-owed.ensures;
       accounts = accounts_in l;
     })
 
@@ -45,25 +38,19 @@ pub invariant_of-self : goal.invariant_of-self
 unfolding done
 invariant_of-self c =
     let l = c.args.self.now in
-    let m = c.args.marking in
-    let price = of_some c.new.result c.unwrap-price.result _ _ c.new.ensures.some c.unwrap-price.ensures in
-    let rate = of_some c.new-2.result c.unwrap-rate.result _ _ c.new-2.ensures.some c.unwrap-rate.ensures in
-    let left = marked_view l m price c.owed-owed.ensures c.settle_accounts.ensures c.as_mut_slice.ensures.value c.as_slice-3.ensures.value c.clear.ensures c.turn_lots.ensures c.as_slice-2.ensures.value c.cents-self.ensures.value (c.millionths-self.ensures.value ∙ rate) in
+    let m = marking_at c.args.price.cents c.args.rate.millionths in
+    let left = marked_view l m refl c.owed-owed.ensures c.settle_accounts.ensures c.as_mut_slice.ensures.value c.as_slice-3.ensures.value c.clear.ensures c.turn_lots.ensures c.as_slice-2.ensures.value c.cents-self.ensures.value c.millionths-self.ensures.value in
     record { reached = goes_on (terms_of l) (view l) (marking m (length c.args.page.now)) tt c.requires left l.reached }
 
 pub returns : goal.returns
 returns c =
     let l = c.args.self.now in
-    let m = c.args.marking in
-    let price = of_some c.new.result c.unwrap-price.result _ _ c.new.ensures.some c.unwrap-price.ensures in
-    let rate = of_some c.new-2.result c.unwrap-rate.result _ _ c.new-2.ensures.some c.unwrap-rate.ensures in
-    let p = c.unwrap-price.result.cents in
-    let r = c.unwrap-rate.result.millionths in
+    let p = c.args.price.cents in
+    let r = c.args.rate.millionths in
     let owed = c.as_slice.ensures.value ∙ c.owed-owed.ensures in
-    let paid = λ (i j : ℕ). page (terms_of l) j (by_marking (terms_of l) (view l) i) (roll (view l)) in
     record {
-      view = marked_view l m price c.owed-owed.ensures c.settle_accounts.ensures c.as_mut_slice.ensures.value c.as_slice-3.ensures.value c.clear.ensures c.turn_lots.ensures c.as_slice-2.ensures.value c.cents-self.ensures.value (c.millionths-self.ensures.value ∙ rate);
+      view = marked_view l (marking_at p r) refl c.owed-owed.ensures c.settle_accounts.ensures c.as_mut_slice.ensures.value c.as_slice-3.ensures.value c.clear.ensures c.turn_lots.ensures c.as_slice-2.ensures.value c.cents-self.ensures.value c.millionths-self.ensures.value;
       terms = refl;
-      page = c.pay-sums.ensures.page ∙ ap (λ rows. over rows c.args.page.now) (page_rows l Marking p owed r ∙ ap (λ (i : ℕ). (paid i r).rows) price ∙ ap (λ (j : ℕ). (paid m.price j).rows) rate);
-      sums = c.pay-sums.ensures.sums ∙ page_sums l Marking p owed r ∙ ap (λ (i : ℕ). (paid i r).totals) price ∙ ap (λ (j : ℕ). (paid m.price j).totals) rate;
+      page = c.pay-sums.ensures.page ∙ ap (λ rows. over rows c.args.page.now) (page_rows l Marking p owed r);
+      sums = c.pay-sums.ensures.sums ∙ page_sums l Marking p owed r;
     }
