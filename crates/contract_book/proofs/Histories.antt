@@ -1,5 +1,6 @@
 -- Requests one after the other, and one request more.
-use Rattle.std.proofs.Common.{◌≡◌, List, [], ◌∷◌, ◌++◌, sym, refl, ap, ◌∙◌}
+use Rattle.std.proofs.Common.{arith}
+use Rattle.std.proofs.Common.{◌≡◌, List, [], ◌∷◌, ◌++◌, refl}
 use Rattle.std.proofs.lemmas.List.{append_assoc, append-nil}
 use Rattle.kinds.specs.Meaning.{Meaning}
 use Rattle.tally.specs.Events.{Request}
@@ -14,12 +15,12 @@ module _ {K : Type 0} (m : Meaning K) where
   pub answers_append : (s : Stand K) (h rs : List Request) → answers m s (h ++ rs) ≡ answers m s h ++ answers m (stands m s h) rs
   unfolding stands answers
   answers_append s [] rs = refl
-  answers_append s (r ∷ h) rs = ap (λ xs. answer_to m s r ∷ xs) (answers_append (next m s r) h rs)
+  answers_append s (r ∷ h) rs = grind (arith, answers_append (next m s r) h rs)
 
   pub pages_append : (s : Stand K) (h rs : List Request) → pages m s (h ++ rs) ≡ pages m s h ++ pages m (stands m s h) rs
   unfolding stands pages
   pages_append s [] rs = refl
-  pages_append s (r ∷ h) rs = ap (λ xs. rows_to m s r ++ xs) (pages_append (next m s r) h rs) ∙ sym (append_assoc (rows_to m s r) (pages m (next m s r) h) (pages m (stands m (next m s r) h) rs))
+  pages_append s (r ∷ h) rs = grind (arith, append_assoc, pages_append (next m s r) h rs)
 
   -- one request more
   pub stands_push : (s : Stand K) (h : List Request) (r : Request) → stands m s (h ++ r ∷ []) ≡ next m (stands m s h) r
@@ -32,4 +33,4 @@ module _ {K : Type 0} (m : Meaning K) where
 
   pub pages_push : (s : Stand K) (h : List Request) (r : Request) → pages m s (h ++ r ∷ []) ≡ pages m s h ++ rows_to m (stands m s h) r
   unfolding pages
-  pages_push s h r = pages_append s h (r ∷ []) ∙ ap (λ xs. pages m s h ++ xs) (append-nil (rows_to m (stands m s h) r))
+  pages_push s h r = grind (arith, pages_append, append-nil)

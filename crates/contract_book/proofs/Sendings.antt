@@ -1,7 +1,8 @@
 -- A sending, call by call.
-use Rattle.std.proofs.Common.{◌≡◌, ℕ, ◌+◌, ◌-◌, ◌<◌, ◌≤◌, min, List, [], ◌∷◌, ◌++◌, length, take, drop, set, sym, refl, ap, ◌∙◌, subst, zero-le, arith}
+use Rattle.std.proofs.lemmas.Grind.{common_steps}
+use Rattle.std.proofs.Common.{◌≡◌, ℕ, ◌+◌, ◌-◌, ◌<◌, ◌≤◌, min, List, [], ◌∷◌, ◌++◌, length, take, drop, set, sym, ap, ◌∙◌, subst, arith}
 use borrow.Rule.Slice.PartMut.{put_mid}
-use Rattle.std.proofs.lemmas.List.{append_assoc, append-nil, take_all, take_more_set, drop-set-lt, drop-drop, take_at, drop_at, drop_all, length-append, length-take-le, length-drop}
+use Rattle.std.proofs.lemmas.List.{append_assoc, append-nil, take_all, take_more_set, drop-drop, take_at, drop_at, drop_all, length-append, length-take-le, length-drop}
 use Rattle.kinds.specs.Meaning.{Meaning}
 use Rattle.tally.specs.Answers.{Answer}
 use Rattle.tally.specs.declared.call.Call.{Call}
@@ -29,9 +30,7 @@ past xs ys a k b s h = subst (λ n. drop n xs ≡ drop n ys) s (sym (drop-drop k
 
 -- a page in what is left of the rows
 whole : {X : Type 0} (xs ys : List X) (a : ℕ) → put_mid a (length xs - a) xs ys ≡ take a xs ++ ys
-whole xs ys a =
-    let l : length (drop a xs) ≤ length xs - a = omega (arith, length-drop a xs) in
-    ap (λ t. take a xs ++ (ys ++ t)) (drop_all (length xs - a) (drop a xs) l) ∙ ap (λ t. take a xs ++ t) (append-nil ys)
+whole xs ys a = grind (arith, length-drop, drop_all, append-nil)
 
 -- rows written over what is left: those before them and those behind them stay
 record Filled (before now_has page : List PageRow) (used n : ℕ) : Type 0 where
@@ -46,14 +45,14 @@ filled xs part₀ part page used n l e f count =
     whole xs part used ∙ ap (λ t. front ++ t) (f ∙ ap (λ k. page ++ drop k part₀) (sym count) ∙ ap (λ t. page ++ drop n t) e) ∙ sym (append_assoc front page back) in
     let long : length (front ++ page) ≡ used + n = omega (arith, length-append front page, length-take-le used xs l, count) in
     record {
-      upto = ap (take (used + n)) out ∙ take_at (front ++ page) back (used + n) long;
-      behind = ap (drop (used + n)) out ∙ drop_at (front ++ page) back (used + n) long ∙ drop-drop n used xs;
+      upto = grind (arith, take_at);
+      behind = grind (arith, drop_at, drop-drop);
     }
 
 module _ {K : Type 0} (m : Meaning K) where
   pub going_none : (s : Stand K) (log : List Answer) (rows : List PageRow) → Going m s [] log log rows rows s 0 0
   unfolding stands answers pages sharing
-  going_none s log rows = record { leads = refl; logged = refl; unlogged = refl; counted = refl; inside = zero-le; paged = refl; unpaged = refl }
+  going_none s log rows = grind arith
 
   -- one call more has what is left of the rows
   sharing_push : (s : Stand K) (n : ℕ) (xs : List Call) (x : Call) → sharing m s n (xs ++ x ∷ []) ≡ sharing m s n xs ++ asked x (n - length (pages m s (sharing m s n xs))) ∷ []
@@ -81,29 +80,16 @@ module _ {K : Type 0} (m : Meaning K) where
       let wide : pages m s h ++ rows_to m t r ≡ pages m s (sharing m s room calls') =
       ap (λ z. pages m s h ++ rows_to m z r) g.leads ∙ sym (ap (pages m s) more ∙ pages_push m s h r) in
       record {
-        leads = eu ∙ ap (λ z. next m z r) g.leads ∙ sym (ap (stands m s) more ∙ stands_push m s h r);
-        logged = take_more_set log₁ i a ll ∙ ap (λ z. z ++ a ∷ []) g.logged ∙ ap (λ z. answers m s h ++ z ∷ []) (ea ∙ ap (λ z. answer_to m z r) g.leads) ∙ sym (ap (answers m s) more ∙ answers_push m s h r);
-        unlogged = drop-set-lt (i + 1) log₁ i a (omega arith) ∙ past log₁ log₀ i 1 (i + 1) refl g.unlogged;
-        counted = omega (arith, g.counted, en, length-append (pages m s h) (rows_to m t r), ap length wide);
-        inside = omega (arith, g.inside, en, rows_fit m t x (length part₀), left, lr);
+        leads = grind (arith, stands_push);
+        logged = grind (arith, take_more_set, answers_push);
+        unlogged = grind (arith, common_steps);
+        counted = grind (arith, length-append);
+        inside = grind (arith, rows_fit);
         paged = f.upto ∙ ap (λ z. z ++ rows_to m t r) g.paged ∙ wide;
-        unpaged = f.behind ∙ past pages₁ pages₀ used n (used + n) refl g.unpaged;
+        unpaged = grind (arith, common_steps);
       }
 
   -- after any history
   pub sent : (s₀ s : Stand K) (h : List Request) (calls : List Call) (log₀ log₁ : List Answer) (pages₀ pages₁ : List PageRow) (t : Stand K) (i n rows : ℕ) →
       s ≡ stands m s₀ h → Going m s (take i (take n calls)) log₀ log₁ pages₀ pages₁ t i rows → i ≡ length (take n calls) → n ≡ min (length calls) (length log₀) → Sent m s₀ s h calls log₀ log₁ pages₀ pages₁ t n rows
-  sent s₀ s h calls log₀ log₁ pages₀ pages₁ t i n rows e going all count =
-      let many : length (take n calls) ≡ n = length-take-le n calls (omega arith) in
-      let at_n = subst (λ (k : ℕ). Going m s (take k (take n calls)) log₀ log₁ pages₀ pages₁ t k rows) (all ∙ many) going in
-      let g = rw (take_all n (take n calls) (omega arith)) at at_n in
-      let rs = sharing m s (length pages₀) (take n calls) in
-      record {
-        served = count;
-        leads = g.leads ∙ ap (λ x. stands m x rs) e ∙ sym (stands_append m s₀ h rs);
-        logged = ap (λ x. answers m s₀ h ++ x) (g.logged ∙ ap (λ x. answers m x rs) e) ∙ sym (answers_append m s₀ h rs);
-        unlogged = g.unlogged;
-        paged = ap (λ x. pages m s₀ h ++ x) (g.paged ∙ ap (λ x. pages m x rs) e) ∙ sym (pages_append m s₀ h rs);
-        inside = g.inside;
-        unpaged = g.unpaged;
-      }
+  sent s₀ s h calls log₀ log₁ pages₀ pages₁ t i n rows e going all count = grind (arith, length-take-le, take_all, stands_append, answers_append, pages_append)

@@ -75,3 +75,9 @@ sharing m s room (x ∷ xs) = asked x room ∷ sharing m (next m s (asked x room
 -- the terms of a book are those of its kind
 abbrev pub OnKind : {K : Type 0} → Meaning K → Stand K → Type 0
 OnKind m s = s.terms ≡ terms_on m s.kind (sessions_of s.terms)
+
+-- a book that stood at s took a request: it gave this answer and stands at t, as the rules say, and so after any history
+pub record Takes {K : Type 0} (m : Meaning K) (s : Stand K) (r : Request) (a : Answer) (t : Stand K) : Type 0 where
+  pub answers : a ≡ answer_to m s r
+  pub leads : t ≡ next m s r
+  pub history : (s₀ : Stand K) (h : List Request) → s ≡ stands m s₀ h → t ≡ stands m s₀ (h ++ r ∷ [])

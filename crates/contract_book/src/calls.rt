@@ -7,7 +7,7 @@ ghost use Rattle.tally.specs.declared.call.Reply.TheVariants.{Designated, Number
 ghost use Rattle.tally.specs.declared.call.Call.TheVariants as call;
 ghost use Rattle.ledger.specs.Told.{over, plainly, told};
 ghost use Rattle.contract_book.specs.Books.{stand};
-ghost use Rattle.contract_book.specs.Stands.{Stand, answer_to, asked, next, rows_to, stands};
+ghost use Rattle.contract_book.specs.Stands.{Takes, asked, rows_to};
 
 use crate::state::Book;
 use kinds::contract::Contract;
@@ -20,9 +20,7 @@ use tally::rows::{Designation, PageRow, Sums, Trade};
 impl<K: Contract> Book<K> {
     // Registers an account, and answers its number.
     pub fn register(&mut self, registration: Registration) -> Result<usize, Refusal>
-        ensures answers { told Numbered result ≡ answer_to K.Contract.means (stand self.old) (asked (call.Register registration) 0) }
-        ensures leads { stand self.new ≡ next K.Contract.means (stand self.old) (asked (call.Register registration) 0) }
-        ensures history { (s : Stand K) (h : List Request) → stand self.old ≡ stands K.Contract.means s h → stand self.new ≡ stands K.Contract.means s (h ++ (asked (call.Register registration) 0) ∷ []) }
+        ensures takes { Takes K.Contract.means (stand self.old) (asked (call.Register registration) 0) (told Numbered result) (stand self.new) }
         ensures same { is_ok result ≡ false → self.new ≡ self.old }
     {
         self.ledger.register(registration)
@@ -30,9 +28,7 @@ impl<K: Contract> Book<K> {
 
     // Takes a trade onto the open session's sheet.
     pub fn trade(&mut self, trade: Trade) -> Result<(), Refusal>
-        ensures answers { told plainly result ≡ answer_to K.Contract.means (stand self.old) (asked (call.Trade trade) 0) }
-        ensures leads { stand self.new ≡ next K.Contract.means (stand self.old) (asked (call.Trade trade) 0) }
-        ensures history { (s : Stand K) (h : List Request) → stand self.old ≡ stands K.Contract.means s h → stand self.new ≡ stands K.Contract.means s (h ++ (asked (call.Trade trade) 0) ∷ []) }
+        ensures takes { Takes K.Contract.means (stand self.old) (asked (call.Trade trade) 0) (told plainly result) (stand self.new) }
         ensures same { is_ok result ≡ false → self.new ≡ self.old }
     {
         self.ledger.trade(trade)
@@ -41,9 +37,7 @@ impl<K: Contract> Book<K> {
     // Hands a quotation within the ranges to the kind.
     #[tactic(auto, using(crate::proofs::Quoting::quotations), unfolding(tally::specs::Questions::questions, tally::specs::Questions::first_unmet))]
     pub fn quote(&mut self, quotation: Quotation) -> Result<(), Refusal>
-        ensures answers { told plainly result ≡ answer_to K.Contract.means (stand self.old) (asked (call.Quote quotation) 0) }
-        ensures leads { stand self.new ≡ next K.Contract.means (stand self.old) (asked (call.Quote quotation) 0) }
-        ensures history { (s : Stand K) (h : List Request) → stand self.old ≡ stands K.Contract.means s h → stand self.new ≡ stands K.Contract.means s (h ++ (asked (call.Quote quotation) 0) ∷ []) }
+        ensures takes { Takes K.Contract.means (stand self.old) (asked (call.Quote quotation) 0) (told plainly result) (stand self.new) }
         ensures same { is_ok result ≡ false → self.new ≡ self.old }
     {
         let Quotation { price, quantity } = quotation;
@@ -58,9 +52,7 @@ impl<K: Contract> Book<K> {
 
     // Takes a seller's notice of delivery.
     pub fn notify(&mut self, notification: Notification) -> Result<(), Refusal>
-        ensures answers { told plainly result ≡ answer_to K.Contract.means (stand self.old) (asked (call.Notify notification) 0) }
-        ensures leads { stand self.new ≡ next K.Contract.means (stand self.old) (asked (call.Notify notification) 0) }
-        ensures history { (s : Stand K) (h : List Request) → stand self.old ≡ stands K.Contract.means s h → stand self.new ≡ stands K.Contract.means s (h ++ (asked (call.Notify notification) 0) ∷ []) }
+        ensures takes { Takes K.Contract.means (stand self.old) (asked (call.Notify notification) 0) (told plainly result) (stand self.new) }
         ensures same { is_ok result ≡ false → self.new ≡ self.old }
     {
         self.ledger.notify(notification)
@@ -68,9 +60,7 @@ impl<K: Contract> Book<K> {
 
     // Pairs the oldest due notice with the oldest lot.
     pub fn designate(&mut self) -> Result<Designation, Refusal>
-        ensures answers { told Designated result ≡ answer_to K.Contract.means (stand self.old) (asked call.Designate 0) }
-        ensures leads { stand self.new ≡ next K.Contract.means (stand self.old) (asked call.Designate 0) }
-        ensures history { (s : Stand K) (h : List Request) → stand self.old ≡ stands K.Contract.means s h → stand self.new ≡ stands K.Contract.means s (h ++ (asked call.Designate 0) ∷ []) }
+        ensures takes { Takes K.Contract.means (stand self.old) (asked call.Designate 0) (told Designated result) (stand self.new) }
         ensures same { is_ok result ≡ false → self.new ≡ self.old }
     {
         self.ledger.designate()
@@ -78,9 +68,7 @@ impl<K: Contract> Book<K> {
 
     // Marks the open session: pays each account into its row of the page, and says what the page comes to.
     pub fn mark(&mut self, marking: Marking, page: &mut [PageRow]) -> Result<Sums, Refusal>
-        ensures answers { told Paid result ≡ answer_to K.Contract.means (stand self.old) (asked (call.Mark marking) (length page.old)) }
-        ensures leads { stand self.new ≡ next K.Contract.means (stand self.old) (asked (call.Mark marking) (length page.old)) }
-        ensures history { (s : Stand K) (h : List Request) → stand self.old ≡ stands K.Contract.means s h → stand self.new ≡ stands K.Contract.means s (h ++ (asked (call.Mark marking) (length page.old)) ∷ []) }
+        ensures takes { Takes K.Contract.means (stand self.old) (asked (call.Mark marking) (length page.old)) (told Paid result) (stand self.new) }
         ensures page { page.new ≡ over (rows_to K.Contract.means (stand self.old) (asked (call.Mark marking) (length page.old))) page.old }
         ensures same { is_ok result ≡ false → self.new ≡ self.old }
     {
@@ -89,9 +77,7 @@ impl<K: Contract> Book<K> {
 
     // Expires the contract at the kind's final price, where there is one.
     pub fn expire(&mut self, page: &mut [PageRow]) -> Result<Sums, Refusal>
-        ensures answers { told Paid result ≡ answer_to K.Contract.means (stand self.old) (asked call.Expire (length page.old)) }
-        ensures leads { stand self.new ≡ next K.Contract.means (stand self.old) (asked call.Expire (length page.old)) }
-        ensures history { (s : Stand K) (h : List Request) → stand self.old ≡ stands K.Contract.means s h → stand self.new ≡ stands K.Contract.means s (h ++ (asked call.Expire (length page.old)) ∷ []) }
+        ensures takes { Takes K.Contract.means (stand self.old) (asked call.Expire (length page.old)) (told Paid result) (stand self.new) }
         ensures page { page.new ≡ over (rows_to K.Contract.means (stand self.old) (asked call.Expire (length page.old))) page.old }
         ensures same { is_ok result ≡ false → self.new ≡ self.old }
     {

@@ -6,7 +6,7 @@ ghost use Rattle.tally.specs.declared.refusal.Refusal.TheVariants.{Unbuildable};
 ghost use Rattle.ledger.specs.Told.{over};
 ghost use Rattle.contract_book.specs.Books.{stand};
 ghost use Rattle.contract_book.specs.Sendings.{Ran, Sent};
-ghost use Rattle.contract_book.specs.Stands.{Stand, answer_to, asked, next, rows_by, rows_to, stands, terms_on};
+ghost use Rattle.contract_book.specs.Stands.{Stand, Takes, asked, rows_by, rows_to, stands, terms_on};
 
 use crate::state::{Book, Unbuilt};
 use kinds::contract::Contract;
@@ -48,9 +48,9 @@ fn page_rows(answer: Answer, accounts: usize) -> usize
 
 impl<K: Contract> Book<K> {
     // Any call: its answer, and its page at the top of the rows handed in.
+    #[tactic(auto, using(crate::proofs::Histories::stands_push))]
     pub fn apply(&mut self, call: Call, page: &mut [PageRow]) -> Answer
-        ensures answers { result ≡ answer_to K.Contract.means (stand self.old) (asked call (length page.old)) }
-        ensures leads { stand self.new ≡ next K.Contract.means (stand self.old) (asked call (length page.old)) }
+        ensures takes { Takes K.Contract.means (stand self.old) (asked call (length page.old)) result (stand self.new) }
         ensures page { page.new ≡ over (rows_to K.Contract.means (stand self.old) (asked call (length page.old))) page.old }
         ensures same { is_ok result ≡ false → self.new ≡ self.old }
     {
@@ -68,8 +68,7 @@ impl<K: Contract> Book<K> {
     // Any call, with how many rows its page has.
     #[tactic(auto, using(crate::proofs::Paying::rows_are))]
     fn serve(&mut self, call: Call, page: &mut [PageRow]) -> Served
-        ensures answers { result.answer ≡ answer_to K.Contract.means (stand self.old) (asked call (length page.old)) }
-        ensures leads { stand self.new ≡ next K.Contract.means (stand self.old) (asked call (length page.old)) }
+        ensures takes { Takes K.Contract.means (stand self.old) (asked call (length page.old)) result.answer (stand self.new) }
         ensures page { page.new ≡ over (rows_to K.Contract.means (stand self.old) (asked call (length page.old))) page.old }
         ensures rows { result.rows ≡ length (rows_to K.Contract.means (stand self.old) (asked call (length page.old))) }
         ensures inside { result.rows ≤ length page.old }
@@ -87,6 +86,7 @@ impl<K: Contract> Book<K> {
         let count = calls.len().min(log.len());
         let mut rows = 0;
         let calls = &calls[..count];
+        // By index and no zip: the loop's invariant has no name for a log that its `iter_mut` has borrowed.
         for (i, &call) in calls.iter().enumerate() {
             let served = self.serve(call, &mut pages[rows..]);
             log[i] = served.answer;

@@ -1,9 +1,9 @@
 -- How large the numbers of a tally can get.
-use Rattle.std.proofs.Common.{◌≡◌, ℕ, zero, suc, ◌+◌, ◌*◌, ◌<◌, ◌≤◌, true, false, cond, ◌&&◌, eqb, leb, List, [], ◌∷◌, ◌++◌, length, replicate, ℤ, pos, ◌+ℤ◌, ◌-ℤ◌, neg_ℤ, None, sum, sym, refl, ap, ◌∙◌, subst, ⊎_elim, mul-le-mul, arith}
+use Rattle.std.proofs.lemmas.Grind.{common_steps}
+use Rattle.std.proofs.Common.{◌≡◌, ℕ, zero, suc, ◌+◌, ◌*◌, ◌<◌, ◌≤◌, true, false, cond, List, [], ◌∷◌, ◌++◌, length, replicate, ℤ, pos, ◌+ℤ◌, ◌-ℤ◌, neg_ℤ, None, sum, sym, refl, ap, subst, ⊎_elim, mul-le-mul, arith}
 use borrow.Author.Differences.{up, down, sum_is_lem, neg_is}
 use Rattle.std.specs.List.{AllByRecursion}
-use Rattle.std.proofs.ByRecursion.{All-append, All-push, All-map, All-weaker, sum_by_le}
-use Rattle.std.proofs.lemmas.List.{length-append}
+use Rattle.std.proofs.ByRecursion.{All-push, All-map, All-weaker, sum_by_le}
 use Rattle.std.proofs.lemmas.List.Sums.{sum_by-append}
 use Rattle.std.proofs.lemmas.Bool.{and_parts, leb-true, eq-eqb, ne_eqb, cases_eq, cases_lt, not-true, eqb-false}
 use Rattle.tally.specs.declared.rows.Account.{Account}
@@ -19,7 +19,7 @@ use Rattle.tally.specs.Events.{registering, trading, noticing}
 use Rattle.tally.specs.Law.{Registered}
 use Rattle.tally.specs.Questions.{questions, verdict, find, net_of, at_most_3000}
 use Rattle.tally.specs.Runs.{begun}
-use Rattle.tally.specs.Steps.{entered, paired, fed_marking, fed_designation, fed_expiry}
+use Rattle.tally.specs.Steps.{entered, fed_marking, fed_designation, fed_expiry}
 use Rattle.tally.proofs.Clock.{Clocked}
 use Rattle.tally.proofs.Facts.{met, between_is, someone, today, found, today_is, today_traded, count_buys, count_sells, one_is_0, prices_stranger}
 use Rattle.tally.proofs.Kept.{waited}
@@ -64,10 +64,7 @@ all_replicate (suc n) p le = (le, all_replicate n p le)
 prices_in : (k : ℕ) (ps : List Posting) → AllByRecursion (λ p. p.price ≤ 999999) ps → AllByRecursion (λ x. x ≤ 999999) (prices k ps)
 unfolding prices
 prices_in k [] h = tt
-prices_in k (p ∷ ps) h =
-    All-append (λ x. x ≤ 999999) (cond (eqb p.holder k) (replicate p.contracts p.price) []) (prices k ps)
-    (elim (eqb p.holder k) as (λ b. AllByRecursion (λ x. x ≤ 999999) (cond b (replicate p.contracts p.price) [])) [ true ↦ all_replicate p.contracts p.price h.0 | false ↦ tt ])
-    (prices_in k ps h.1)
+prices_in k (p ∷ ps) h = grind (arith, common_steps, all_replicate, prices_in k ps h.1)
 
 pub sides_in : (k : ℕ) (ws : List Trade) → AllByRecursion TradeIn ws → AllByRecursion (λ x. x ≤ 999999) (prices k (buys ws)) × AllByRecursion (λ x. x ≤ 999999) (prices k (sells ws))
 sides_in k ws h =
@@ -78,17 +75,10 @@ pub sum_in : (xs : List ℕ) → AllByRecursion (λ x. x ≤ 999999) xs → sum 
 sum_in xs h = omega (arith, sum_by_le (λ x. x) 999999 xs h)
 
 pub bounded_begun : BoundedTally begun
-bounded_begun = record {
-  trades_in = tt;
-  bought_in = λ k r. absurd (omega arith);
-  sold_in = λ k r. absurd (omega arith);
-  carried_in = λ k r. absurd (omega arith);
-  net_in = λ k r. absurd (omega arith);
-  worth_in = λ k r. absurd (omega arith);
-}
+bounded_begun = grind arith
 
 small_is : (z : ℤ) → at_most_3000 z ≡ true → Small 3000 z
-small_is z e = let p = and_parts (leb (long z) 3000) (leb (short z) 3000) e in (leb-true (long z) 3000 p.0, leb-true (short z) 3000 p.1)
+small_is z e = grind arith
 
 -- what an accepted trade tells
 record Told (t : Tally) (w : Trade) (b s : Account) : Type 0 where
@@ -107,36 +97,12 @@ module _ (c : Terms) (windows : c.delivers ≡ false → c.closes ≡ 0) (t : Ta
 
   told : (w : Trade) → verdict c v (trading w) ≡ None → Told t w (find v w.buyer) (find v w.seller)
   unfolding questions
-  told w e =
-      let b = find v w.buyer in
-      let s = find v w.seller in
-      let q2 = met _ _ e in
-      let q6 = met _ _ q2.1 in
-      let q7 = met _ _ q6.1 in
-      let q8 = met _ _ q7.1 in
-      let q9 = met _ _ q8.1 in
-      let q10 = met _ _ q9.1 in
-      let b6 = and_parts _ _ q6.0 in
-      let s6 = and_parts _ _ b6.1 in
-      let some = between_is 1 3000 w.contracts q8.0 in
-      let b10 = and_parts (at_most_3000 (net_of b +ℤ pos w.contracts)) (at_most_3000 (net_of s -ℤ pos w.contracts) && (leb (b.bought + w.contracts) 3000 && leb (s.sold + w.contracts) 3000)) q10.0 in
-      let s10 = and_parts (at_most_3000 (net_of s -ℤ pos w.contracts)) (leb (b.bought + w.contracts) 3000 && leb (s.sold + w.contracts) 3000) b10.1 in
-      let t10 = and_parts (leb (b.bought + w.contracts) 3000) (leb (s.sold + w.contracts) 3000) s10.1 in
-      record {
-        buyer = registers c windows t h w.buyer b6.0;
-        seller = registers c windows t h w.seller s6.0;
-        apart = eqb-false w.buyer w.seller (not-true (eqb w.buyer w.seller) s6.1);
-        fits = ((between_is 1 999999 w.price (and_parts _ _ q7.0).0).1, some.0, some.1);
-        buyer_net = small_is (net_of b +ℤ pos w.contracts) b10.0;
-        seller_net = small_is (net_of s -ℤ pos w.contracts) s10.0;
-        buys_in = leb-true (b.bought + w.contracts) 3000 t10.0;
-        sells_in = leb-true (s.sold + w.contracts) 3000 t10.1;
-      }
+  told w e = grind (arith, met, and_parts, between_is, registers, eqb-false, not-true, small_is, leb-true)
 
   -- what the account shows of today
   shows : (k : ℕ) → Registered (length t.parties) k → ((find v k).bought ≡ length (prices k (buys t.waiting))) × ((find v k).sold ≡ length (prices k (sells t.waiting)))
   unfolding account
-  shows k r = let e = shows_account c t k r in (ap (λ a. a.bought) e, ap (λ a. a.sold) e)
+  shows k r = grind (arith, shows_account)
 
   net_traded : (w : Trade) → Told t w (find v w.buyer) (find v w.seller) → (k : ℕ) → Registered (length t.parties) k → Small 3000 (today (entered t (trading w)) k)
   net_traded w f k r = ⊎_elim
@@ -186,17 +152,10 @@ module _ (c : Terms) (windows : c.delivers ≡ false → c.closes ≡ 0) (t : Ta
   unfolding entered
   bounded_trade w e =
       let f = told w e in
-      let yes = λ (n : ℕ). ap (λ b. cond b w.contracts 0) (eq-eqb n n refl) in
       record {
         trades_in = All-push TradeIn t.waiting w d.trades_in f.fits;
-        bought_in = λ k r. ⊎_elim
-            (λ (p : w.buyer ≡ k). subst (λ j. length (prices j (buys (t.waiting ++ w ∷ []))) ≤ 3000) p (omega (arith, count_buys w.buyer t.waiting w, yes w.buyer, (shows w.buyer f.buyer).0, f.buys_in)))
-            (λ (p : w.buyer ≡ k → ⊥). omega (arith, count_buys k t.waiting w, ap (λ b. cond b w.contracts 0) (ne_eqb w.buyer k p), d.bought_in k r))
-            (cases_eq w.buyer k);
-        sold_in = λ k r. ⊎_elim
-            (λ (p : w.seller ≡ k). subst (λ j. length (prices j (sells (t.waiting ++ w ∷ []))) ≤ 3000) p (omega (arith, count_sells w.seller t.waiting w, yes w.seller, (shows w.seller f.seller).1, f.sells_in)))
-            (λ (p : w.seller ≡ k → ⊥). omega (arith, count_sells k t.waiting w, ap (λ b. cond b w.contracts 0) (ne_eqb w.seller k p), d.sold_in k r))
-            (cases_eq w.seller k);
+        bought_in = λ k r. grind (arith, count_buys, shows, ne_eqb, cases_eq);
+        sold_in = λ k r. grind (arith, count_sells, shows, ne_eqb, cases_eq);
         carried_in = d.carried_in;
         net_in = λ k r. net_traded w f k r;
         worth_in = d.worth_in;
@@ -204,13 +163,12 @@ module _ (c : Terms) (windows : c.delivers ≡ false → c.closes ≡ 0) (t : Ta
 
   pub bounded_notice : (n : Notification) → BoundedTally (entered t (noticing n))
   unfolding entered
-  bounded_notice n = record { trades_in = d.trades_in; bought_in = d.bought_in; sold_in = d.sold_in; carried_in = d.carried_in; net_in = d.net_in; worth_in = d.worth_in }
+  bounded_notice n = grind arith
 
   pub bounded_register : (p : Registration) → BoundedTally (entered t (registering p))
   unfolding entered
   bounded_register p =
       let n = length t.parties in
-      let more : length (t.parties ++ p ∷ []) ≡ n + 1 = length-append t.parties (p ∷ []) in
       let q = waited n t.waiting h.balanced.traders in
       let pick = λ (P : ℕ → Type 0) (old : (k : ℕ) → Registered n k → P k) (new : (k : ℕ) → n < k → P k) (k : ℕ) (r : Registered (length (t.parties ++ p ∷ [])) k).
       ⊎_elim (λ (a : k < n + 1). old k (r.0, omega arith)) (λ (a : n + 1 ≤ k). new k (omega arith)) (cases_lt k (n + 1)) in
@@ -230,9 +188,6 @@ module _ (c : Terms) (windows : c.delivers ≡ false → c.closes ≡ 0) (t : Ta
   pub bounded_designation : (x : Notice) (l : Lot) (xs : List Notice) (ls : List Lot) → t.notices ≡ x ∷ xs → t.lots ≡ l ∷ ls → x.session < t.session → BoundedTally (fed_designation t x l)
   unfolding fed_designation next
   bounded_designation x l xs ls nx lx due_now =
-      let m = paired x l in
-      let got : Posting = record { holder = x.seller; price = t.price; contracts = m } in
-      let gave : Posting = record { holder = l.owner; price = t.price; contracts = m } in
       record {
         trades_in = d.trades_in;
         bought_in = d.bought_in;
@@ -260,15 +215,7 @@ module _ (c : Terms) (windows : c.delivers ≡ false → c.closes ≡ 0) (t : Ta
               one_is_0 (today t k),
               one_is_0 (today (fed_designation t x l) k),
             );
-        worth_in = λ k r.
-            let B = prices k t.bought in
-            let S = prices k t.sold in
-            let b = cond (eqb x.seller k) m 0 in
-            let s = cond (eqb l.owner k) m 0 in
-            let e : prices k (t.bought ++ got ∷ []) ≡ B ++ replicate b t.price = prices_append k t.bought (got ∷ []) ∙ ap (λ y. B ++ y) (prices_one k got) in
-            let f : prices k (t.sold ++ gave ∷ []) ≡ S ++ replicate s t.price = prices_append k t.sold (gave ∷ []) ∙ ap (λ y. S ++ y) (prices_one k gave) in
-            let same : worth t.price (prices k (t.bought ++ got ∷ [])) (prices k (t.sold ++ gave ∷ [])) ≡ worth_of t k = two (worth t.price) e f ∙ worth_at t.price b s B S in
-            subst (λ z. Small (limit t) z) (sym same) (d.worth_in k r);
+        worth_in = λ k r. grind (arith, prices_append, prices_one, worth, two, worth_at);
       }
 
   -- a marking changes the worth by what is carried at the old price, what is net at the new one, and the prices of the day: 3,000 contracts each
@@ -279,8 +226,7 @@ module _ (c : Terms) (windows : c.delivers ≡ false → c.closes ≡ 0) (t : Ta
     bought_in = λ k r. omega arith;
     sold_in = λ k r. omega arith;
     carried_in = d.net_in;
-    net_in = λ k r. let g = d.net_in k r in
-        omega (arith, g, today_is (fed_marking t m) k, one_is_0 (today t k), one_is_0 (today (fed_marking t m) k), net_is (prices k (t.bought ++ buys t.waiting)) (prices k (t.sold ++ sells t.waiting)));
+    net_in = λ k r. grind (arith, common_steps);
     worth_in = λ k r.
         let B = prices k t.bought in
         let S = prices k t.sold in

@@ -1,6 +1,6 @@
 -- No number of a run is large.
-use Rattle.std.proofs.Common.{◌≡◌, ℕ, ◌+◌, ◌-◌, ◌*◌, ◌≤◌, true, false, cond, not, ◌&&◌, eqb, List, [], ◌∷◌, length, get_or, pos, ◌*ℤ◌, nat_abs, Some, None, fold, sym, refl, ap, subst, arith}
-use borrow.Author.Differences.{up, down, product_is, abs_is}
+use Rattle.std.proofs.Common.{◌≡◌, ℕ, ◌+◌, ◌-◌, ◌*◌, ◌≤◌, true, false, cond, not, ◌&&◌, eqb, List, [], ◌∷◌, length, get_or, nat_abs, Some, None, fold, sym, refl, ap, subst, arith}
+use borrow.Author.Differences.{down, product_is, abs_is}
 use Rattle.std.specs.List.{AllByRecursion}
 use Rattle.std.proofs.lemmas.Bool.{ltb-true, not-true, and_parts, eq-eqb}
 use Rattle.tally.specs.declared.rows.Trade.{Trade}
@@ -50,9 +50,9 @@ module _ (c : Terms) (windows : c.delivers ≡ false → c.closes ≡ 0) (t : Ta
   both_entered : (e : Event) → FinalPriced e → verdict c (seen c.size t) e ≡ None → Both (entered t e)
   unfolding entered questions
   both_entered (registering p) f e = (bounded_register c windows t h.sound h.small p, roomy_register c windows t h.sound h.roomy p e)
-  both_entered (trading w) f e = (bounded_trade c windows t h.sound h.small w e, roomy_trade c windows t h.sound h.roomy w e)
+  both_entered (trading w) f e = grind (arith, bounded_trade, roomy_trade)
   both_entered (quoting q r) f e = (h.small, h.roomy)
-  both_entered (noticing n) f e = (bounded_notice c windows t h.sound h.small n, roomy_notice c windows t h.sound h.roomy n e)
+  both_entered (noticing n) f e = grind (arith, bounded_notice, roomy_notice)
   both_entered designating f e = both_oldest t.notices t.lots refl refl (met _ _ e).0
   both_entered (marking m r) f e =
       let q19 = met _ _ (met _ _ e).1 in
@@ -65,10 +65,7 @@ module _ (c : Terms) (windows : c.delivers ≡ false → c.closes ≡ 0) (t : Ta
       (bounded_expiry c windows t h.sound h.small h.clock final (between_is 1 999999 final f).1 fresh, roomy_expiry c windows t h.sound h.roomy final)
 
   standing_fed : (e : Event) → FinalPriced e → Standing c (fed c t e)
-  standing_fed e f =
-      let o = verdict c (seen c.size t) e in
-      let both : Both (fed c t e) = elim o as (λ a. o ≡ a → Both (elim a [ None ↦ entered t e | Some _ ↦ t ])) [ None ↦ both_entered e f | Some _ ↦ λ _. (h.small, h.roomy) ] refl in
-      record { sound = sound_fed c windows t h.sound e; clock = clocked_fed c t h.clock e; small = both.0; roomy = both.1 }
+  standing_fed e f = grind (arith, both_entered, sound_fed, clocked_fed)
 
 module _ (c : Terms) (windows : c.delivers ≡ false → c.closes ≡ 0) where
   standing_from : (t : Tally) → Standing c t → (es : List Event) → AllByRecursion FinalPriced es → Standing c (fold (fed c) t es)
@@ -81,7 +78,7 @@ module _ (c : Terms) (windows : c.delivers ≡ false → c.closes ≡ 0) where
 -- ---- rows: none counts more than all that its account has
 trades_fit : (n : ℕ) (ws : List Trade) → AllByRecursion (λ w. Registered n w.buyer × Registered n w.seller) ws → AllByRecursion TradeIn ws → AllByRecursion (TradeBounded n) ws
 trades_fit n [] r h = tt
-trades_fit n (w ∷ ws) r h = ((r.0.0, r.0.1, h.0.0, h.0.1, h.0.2), trades_fit n ws r.1 h.1)
+trades_fit n (w ∷ ws) r h = grind (arith, trades_fit n ws r.1 h.1)
 
 lots_cons : (k : ℕ) (l : Lot) (ls : List Lot) → in_lots k (l ∷ ls) ≡ cond (eqb l.owner k) l.count 0 + in_lots k ls
 unfolding in_lots
@@ -107,12 +104,7 @@ module _ (c : Terms) (sized : c.size ≤ 100) (t : Tally) (h : Standing c t) whe
   v = seen c.size t
 
   total_fits : (k : ℕ) → Registered (length t.parties) k → nat_abs (position c.size t.price (prices k t.bought) (prices k t.sold)) ≤ c.size * limit t
-  total_fits k r =
-      let w = worth_of t k in
-      let z = pos c.size *ℤ w in
-      let i = h.small.worth_in k r in
-      let e = position_worth c.size t.price (prices k t.bought) (prices k t.sold) in
-      omega (arith, ap nat_abs e, abs_is z, product_is (pos c.size) w, product c.size (up w) c.size (limit t) (omega arith) i.0, product c.size (down w) c.size (limit t) (omega arith) i.1)
+  total_fits k r = grind (arith, worth_of, position_worth, abs_is, product_is, product, limit)
 
   account_fits : (k : ℕ) (p : Registration) → Registered (length t.parties) k → AccountBounded c v k (account c.size t k p)
   unfolding account
@@ -141,7 +133,7 @@ module _ (c : Terms) (sized : c.size ≤ 100) (t : Tally) (h : Standing c t) whe
         few_accounts = omega (arith, many, h.roomy.few_parties);
         few_trades = h.roomy.few_trades;
         few_notices = h.roomy.few_notices;
-        few_lots = omega (arith, h.roomy.few_lots, openings_shown c t 1 t.parties);
+        few_lots = grind (arith, openings_shown);
         accounts_in = λ k r.
             let own : Registered n k = (r.0, omega (arith, r.1, many)) in
             subst (λ a. AccountBounded c v k a) (sym (shows_account c t k own)) (account_fits k (get_or t.parties (k - 1) someone) own);
@@ -150,8 +142,8 @@ module _ (c : Terms) (sized : c.size ≤ 100) (t : Tally) (h : Standing c t) whe
             (lots_fit n 0 0 t.session t.lots h.sound.holders h.sound.lots_ordered (λ j r. omega (arith, h.sound.lots_are j r, (h.small.carried_in j r).0)));
         notices_in = subst (λ i. AllByRecursion (NoticeBounded i t.session) t.notices) (sym many)
             (notices_fit n 0 t.session t.notices h.sound.sellers h.sound.ordered (λ j r. omega (arith, h.sound.under_short j, (h.small.net_in j r).1)));
-        marking_in = λ price e. marking_fits c sized t h.clock h.small price (between_is 1 999999 price e).1;
-        expiry_in = λ final e. expiry_fits c sized t h.clock h.small final (between_is 1 999999 final e).1;
+        marking_in = λ price e. grind (arith, marking_fits, between_is);
+        expiry_in = λ final e. grind (arith, expiry_fits, between_is);
       }
 
 pub bounds : BoundsLaw

@@ -1,15 +1,15 @@
 -- What the questions tell, and what an account shows.
-use Rattle.std.proofs.Common.{◌≡◌, ℕ, zero, suc, ◌+◌, ◌-◌, ◌<◌, ◌≤◌, min, true, false, cond, eqb, leb, List, [], ◌∷◌, ◌++◌, length, get_or, ℤ, pos, negsuc, Some, None, refl, ap, ◌∙◌, arith}
+use Rattle.std.proofs.Common.{◌≡◌, ℕ, zero, suc, ◌+◌, ◌-◌, ◌<◌, ◌≤◌, min, true, cond, eqb, List, [], ◌∷◌, ◌++◌, length, get_or, ℤ, pos, negsuc, None, refl, ap, ◌∙◌, arith}
 use borrow.Author.Differences.{up, down}
 use Rattle.std.specs.List.{AllByRecursion}
 use Rattle.std.proofs.lemmas.List.{map_push, length-append, length-replicate}
-use Rattle.std.proofs.lemmas.Bool.{and_parts, leb-true, ne_eqb}
+use Rattle.std.proofs.lemmas.Bool.{ne_eqb}
 use Rattle.tally.specs.declared.rows.Trade.{Trade}
 use Rattle.tally.specs.declared.call.Registration.{Registration}
 use Rattle.tally.specs.Account.{net}
 use Rattle.tally.specs.Law.{Registered}
 use Rattle.tally.proofs.Balance.{Balanced}
-use Rattle.tally.specs.Book.{Terms, Posting, Tally, numbered, prices, buy, sell, buys, sells, carried, account, seen}
+use Rattle.tally.specs.Book.{Terms, Posting, Tally, numbered, prices, buys, sells, carried, account, seen}
 use Rattle.tally.specs.Events.{trading}
 use Rattle.tally.specs.Questions.{Question, first_unmet, find, net_of, nobody, between}
 use Rattle.tally.specs.Steps.{entered}
@@ -19,12 +19,10 @@ use Rattle.tally.proofs.Square.{net_marked}
 
 pub met : (q : Question) (qs : List Question) → first_unmet (q ∷ qs) ≡ None → (q.met ≡ true) × (first_unmet qs ≡ None)
 unfolding first_unmet
-met q qs e =
-    elim q.met as (λ b. cond b (first_unmet qs) (Some q.refusal) ≡ None → (b ≡ true) × (first_unmet qs ≡ None))
-    [ true ↦ λ h. (refl, h) | false ↦ λ h. absurd (let z : ◌≡◌ {A = ℕ} 0 1 = cc in omega arith) ] e
+met q qs e = grind arith
 
 pub between_is : (a b n : ℕ) → between a b n ≡ true → (a ≤ n) × (n ≤ b)
-between_is a b n e = let p = and_parts (leb a n) (leb n b) e in (leb-true a n p.0, leb-true n b p.1)
+between_is a b n e = grind arith
 
 pub length_numbered : {X Y : Type 0} (f : ℕ → X → Y) (n : ℕ) (xs : List X) → length (numbered f n xs) ≡ length xs
 unfolding numbered
@@ -35,7 +33,7 @@ pub get_d_numbered : {X Y : Type 0} (f : ℕ → X → Y) (n : ℕ) (xs : List X
 unfolding numbered
 get_d_numbered f n [] i d e lt = absurd (omega arith)
 get_d_numbered f n (x ∷ xs) zero d e lt = ap (λ k. f k x) (omega arith)
-get_d_numbered f n (x ∷ xs) (suc i) d e lt = get_d_numbered f (n + 1) xs i d e (omega arith) ∙ ap (λ k. f k (get_or xs i e)) (omega arith)
+get_d_numbered f n (x ∷ xs) (suc i) d e lt = grind (arith, get_d_numbered f (n + 1) xs i d e (omega arith))
 
 -- a registration to read past the end of a list
 abbrev pub someone : Registration
@@ -53,27 +51,17 @@ found c t k r =
 
 pub today_is : (t : Tally) (k : ℕ) →
     up (today t k) + (length (prices k t.sold) + length (prices k (sells t.waiting))) ≡ down (today t k) + (length (prices k t.bought) + length (prices k (buys t.waiting)))
-today_is t k =
-    omega (
-      arith,
-      net_is (prices k (t.bought ++ buys t.waiting)) (prices k (t.sold ++ sells t.waiting)),
-      ap length (prices_append k t.bought (buys t.waiting)),
-      ap length (prices_append k t.sold (sells t.waiting)),
-      length-append (prices k t.bought) (prices k (buys t.waiting)),
-      length-append (prices k t.sold) (prices k (sells t.waiting)),
-    )
+today_is t k = grind (arith, net_is, prices_append, length-append)
 
 -- one posting more
 pub count_push : (k : ℕ) (ps : List Posting) (p : Posting) → length (prices k (ps ++ p ∷ [])) ≡ length (prices k ps) + cond (eqb p.holder k) p.contracts 0
-count_push k ps p =
-    ap length (prices_append k ps (p ∷ [])) ∙ length-append (prices k ps) (prices k (p ∷ []))
-    ∙ ap (λ n. length (prices k ps) + n) (ap length (prices_one k p) ∙ length-replicate (cond (eqb p.holder k) p.contracts 0) p.price)
+count_push k ps p = grind (arith, prices_append, length-append, prices_one, length-replicate)
 
 pub count_buys : (k : ℕ) (ts : List Trade) (w : Trade) → length (prices k (buys (ts ++ w ∷ []))) ≡ length (prices k (buys ts)) + cond (eqb w.buyer k) w.contracts 0
-count_buys k ts w = ap (λ l. length (prices k l)) (map_push buy ts w) ∙ count_push k (buys ts) (buy w)
+count_buys k ts w = grind (arith, map_push, count_push)
 
 pub count_sells : (k : ℕ) (ts : List Trade) (w : Trade) → length (prices k (sells (ts ++ w ∷ []))) ≡ length (prices k (sells ts)) + cond (eqb w.seller k) w.contracts 0
-count_sells k ts w = ap (λ l. length (prices k l)) (map_push sell ts w) ∙ count_push k (sells ts) (sell w)
+count_sells k ts w = grind (arith, map_push, count_push)
 
 pub one_is_0 : (z : ℤ) → min (up z) (down z) ≡ 0
 one_is_0 (pos n) = omega arith
@@ -83,7 +71,7 @@ one_is_0 (negsuc n) = omega arith
 pub prices_stranger : (n k : ℕ) (ps : List Posting) → n < k → AllByRecursion (λ p. Registered n p.holder) ps → prices k ps ≡ []
 unfolding prices
 prices_stranger n k [] lt h = refl
-prices_stranger n k (p ∷ ps) lt h = rw (ne_eqb p.holder k (λ e. omega (arith, h.0.1))) (prices_stranger n k ps lt h.1)
+prices_stranger n k (p ∷ ps) lt h = grind (arith, ne_eqb, prices_stranger n k ps lt h.1)
 
 pub carried_stranger : (t : Tally) (k : ℕ) → Balanced t → length t.parties < k → up (carried t k) ≡ 0
 carried_stranger t k h lt =

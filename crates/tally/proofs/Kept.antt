@@ -1,17 +1,18 @@
 -- Each call keeps a tally balanced, so what a page owes sums to zero.
+use Rattle.std.proofs.lemmas.Grind.{common_steps}
 use Rattle.std.proofs.Common.{◌≡◌, ℕ, ◌+◌, ◌*◌, ◌≤◌, List, [], ◌∷◌, map, length, ℤ, pos, ◌+ℤ◌, sum_by, sym, refl, ap, ◌∙◌, arith}
 use borrow.Author.Differences.{ints}
 use Rattle.std.specs.List.{AllByRecursion}
 use Rattle.std.proofs.ByRecursion.{All-append}
-use Rattle.std.proofs.lemmas.List.Sums.{sum_by-cons, sum_by-append, sum_by_push}
+use Rattle.std.proofs.lemmas.List.Sums.{sum_by-cons, sum_by-append}
 use Rattle.tally.specs.declared.rows.Account.{Account}
 use Rattle.tally.specs.declared.rows.Trade.{Trade}
 use Rattle.tally.specs.declared.rows.Lot.{Lot}
 use Rattle.tally.specs.declared.rows.Notice.{Notice}
 use Rattle.tally.specs.declared.call.Marking.{Marking}
 use Rattle.tally.specs.Account.{long, short}
-use Rattle.tally.specs.Book.{Terms, Posting, Tally, View, numbered, prices, buy, sell, buys, sells, carried, seen}
-use Rattle.tally.specs.Steps.{paired, fed_marking, fed_designation, fed_expiry, mark, marked_account, expire, expired_account}
+use Rattle.tally.specs.Book.{Terms, Tally, View, numbered, prices, buys, sells, carried, seen}
+use Rattle.tally.specs.Steps.{fed_marking, fed_designation, fed_expiry, mark, marked_account, expire, expired_account}
 use Rattle.tally.specs.Law.{Registered, totals}
 use Rattle.tally.specs.Pages.{sumℤ, by_marking, by_expiry}
 use Rattle.tally.proofs.Balance.{contracts, worth_of, Balanced}
@@ -25,15 +26,11 @@ use Rattle.tally.proofs.Square.{mark_square, expire_square}
 pub waited : (n : ℕ) (ts : List Trade) → AllByRecursion (λ w. Registered n w.buyer × Registered n w.seller) ts →
     AllByRecursion (λ p. Registered n p.holder) (buys ts) × AllByRecursion (λ p. Registered n p.holder) (sells ts)
 waited n [] h = (tt, tt)
-waited n (t ∷ ts) h = ((h.0.0, (waited n ts h.1).0), (h.0.1, (waited n ts h.1).1))
+waited n (t ∷ ts) h = grind (arith, waited n ts h.1)
 
 matched : (ts : List Trade) → (sum_by contracts (buys ts) ≡ sum_by contracts (sells ts)) × (sum_by worth_of (buys ts) ≡ sum_by worth_of (sells ts))
 matched [] = (refl, refl)
-matched (t ∷ ts) =
-    let h = matched ts in (
-      sum_by-cons contracts (buy t) (buys ts) ∙ omega (arith, h.0) ∙ sym (sum_by-cons contracts (sell t) (sells ts)),
-      sum_by-cons worth_of (buy t) (buys ts) ∙ omega (arith, h.1) ∙ sym (sum_by-cons worth_of (sell t) (sells ts)),
-    )
+matched (t ∷ ts) = grind (arith, common_steps)
 
 pub balanced_marking : (t : Tally) (m : Marking) → Balanced t → Balanced (fed_marking t m)
 unfolding fed_marking
@@ -41,24 +38,14 @@ balanced_marking t m h = let w = waited (length t.parties) t.waiting h.traders i
   buyers = All-append _ t.bought (buys t.waiting) h.buyers w.0;
   sellers = All-append _ t.sold (sells t.waiting) h.sellers w.1;
   traders = tt;
-  evenly = sum_by-append contracts t.bought (buys t.waiting) ∙ omega (arith, h.evenly, (matched t.waiting).0) ∙ sym (sum_by-append contracts t.sold (sells t.waiting));
-  values = sum_by-append worth_of t.bought (buys t.waiting) ∙ omega (arith, h.values, (matched t.waiting).1) ∙ sym (sum_by-append worth_of t.sold (sells t.waiting));
+  evenly = grind (arith, sum_by-append, contracts, matched);
+  values = grind (arith, common_steps);
 }
 
 -- ---- designation
 pub balanced_designation : (t : Tally) (notice : Notice) (lot : Lot) → Registered (length t.parties) notice.seller → Registered (length t.parties) lot.owner → Balanced t → Balanced (fed_designation t notice lot)
 unfolding fed_designation
-balanced_designation t notice lot a b h =
-    let m = paired notice lot in
-    let got : Posting = record { holder = notice.seller; price = t.price; contracts = m } in
-    let gave : Posting = record { holder = lot.owner; price = t.price; contracts = m } in
-    record {
-      buyers = All-append _ t.bought (got ∷ []) h.buyers (a, tt);
-      sellers = All-append _ t.sold (gave ∷ []) h.sellers (b, tt);
-      traders = h.traders;
-      evenly = sum_by_push contracts t.bought got ∙ omega (arith, h.evenly) ∙ sym (sum_by_push contracts t.sold gave);
-      values = sum_by_push worth_of t.bought got ∙ omega (arith, h.values) ∙ sym (sum_by_push worth_of t.sold gave);
-    }
+balanced_designation t notice lot a b h = grind (arith, common_steps)
 
 -- ---- expiry
 module _ {X : Type 0} (price : ℕ) (of : ℕ → ℕ) where
@@ -70,11 +57,7 @@ module _ {X : Type 0} (price : ℕ) (of : ℕ → ℕ) where
   each_sums : (n : ℕ) (xs : List X) → (sum_by contracts (numbered (each price of) n xs) ≡ over of n xs) × (sum_by worth_of (numbered (each price of) n xs) ≡ price * over of n xs)
   unfolding numbered over
   each_sums n [] = (refl, omega arith)
-  each_sums n (x ∷ xs) =
-      let h = each_sums (n + 1) xs in (
-        sum_by-cons contracts (each price of n x) (numbered (each price of) (n + 1) xs) ∙ omega (arith, h.0),
-        sum_by-cons worth_of (each price of n x) (numbered (each price of) (n + 1) xs) ∙ omega (arith, h.1),
-      )
+  each_sums n (x ∷ xs) = grind (arith, common_steps, sum_by-cons, contracts, each, worth_of, each_sums (n + 1) xs)
 
 -- long and short contracts, all accounts together
 module _ {X : Type 0} where
@@ -82,7 +65,7 @@ module _ {X : Type 0} where
       over (λ k. long (carried t k)) n xs + over (λ k. length (prices k t.sold)) n xs ≡ over (λ k. short (carried t k)) n xs + over (λ k. length (prices k t.bought)) n xs
   unfolding over
   over_net t n [] = refl
-  over_net t n (x ∷ xs) = omega (arith, over_net t (n + 1) xs, net_is (prices n t.bought) (prices n t.sold))
+  over_net t n (x ∷ xs) = grind (arith, net_is, over_net t (n + 1) xs)
 
 pub longs_are_shorts : (t : Tally) → Balanced t → over (λ k. long (carried t k)) 1 t.parties ≡ over (λ k. short (carried t k)) 1 t.parties
 longs_are_shorts t h = omega (arith, over_net t 1 t.parties, all_contracts t.bought t.parties h.buyers, all_contracts t.sold t.parties h.sellers, h.evenly)
@@ -101,8 +84,8 @@ balanced_expiry t final h =
       buyers = All-append _ t.bought bs h.buyers (each_in final ss 1 (length t.parties) t.parties (omega arith) (omega arith));
       sellers = All-append _ t.sold es h.sellers (each_in final ls 1 (length t.parties) t.parties (omega arith) (omega arith));
       traders = h.traders;
-      evenly = sum_by-append contracts t.bought bs ∙ omega (arith, h.evenly, b.0, e.0, same) ∙ sym (sum_by-append contracts t.sold es);
-      values = sum_by-append worth_of t.bought bs ∙ omega (arith, h.values, b.1, e.1, times final same) ∙ sym (sum_by-append worth_of t.sold es);
+      evenly = grind (arith, sum_by-append, contracts);
+      values = grind (arith, sum_by-append, worth_of, times);
     }
 
 -- ---- pages

@@ -1,18 +1,18 @@
 -- The settlement law.
-use Rattle.std.proofs.Common.{◌≡◌, ℕ, ◌+◌, ◌-◌, ◌*◌, ◌<◌, ◌≤◌, true, false, cond, not, ◌&&◌, eqb, ltb, leb, List, [], ◌∷◌, ◌++◌, length, get_or, pos, ◌+ℤ◌, ◌-ℤ◌, ◌*ℤ◌, Some, None, fold, sum, Option, sym, refl, ap, ◌∙◌, subst, arith}
+use Rattle.std.proofs.Common.{◌≡◌, ℕ, ◌+◌, ◌-◌, ◌<◌, ◌≤◌, false, cond, not, ◌&&◌, eqb, ltb, leb, List, [], ◌∷◌, ◌++◌, length, get_or, pos, ◌+ℤ◌, ◌-ℤ◌, ◌*ℤ◌, Some, None, fold, sum, Option, sym, refl, ap, ◌∙◌, subst, arith}
 use Rattle.std.specs.List.{AllByRecursion}
 use Rattle.std.proofs.lemmas.List.{append_assoc, append-nil}
 use Rattle.std.proofs.lemmas.Bool.{and_parts, eqb-true, not-true, false≢true}
 use Rattle.tally.specs.declared.rows.Lot.{Lot}
 use Rattle.tally.specs.declared.rows.Notice.{Notice}
 use Rattle.tally.specs.declared.call.Marking.{Marking}
-use Rattle.tally.specs.Account.{long, net, position}
+use Rattle.tally.specs.Account.{net, position}
 use Rattle.tally.specs.Book.{Terms, Tally, View, prices, carried, account, seen}
 use Rattle.tally.specs.Events.{Event, registering, trading, quoting, noticing, designating, marking, expiring}
-use Rattle.tally.specs.Law.{Registered, totals, page_rate, Balances, Met, Buildable, SettlementLaw}
-use Rattle.tally.specs.Logs.{Side, bought, sold, markings, closed, trades, designations, notices_from, last_marked, settlement_price, sellers, designated, counted, value, contracts_of, value_of, postings, final_price, at_expiry, open_contracts, carried_by}
-use Rattle.tally.specs.Pages.{Page, sumℤ}
-use Rattle.tally.specs.Questions.{questions, verdict, first_unmet, find, nobody, in_lots, is_due, is_buildable, between}
+use Rattle.tally.specs.Law.{Registered, page_rate, Balances, Met, Buildable, SettlementLaw}
+use Rattle.tally.specs.Logs.{Side, bought, sold, markings, closed, trades, designations, notices_from, last_marked, settlement_price, sellers, designated, counted, value, contracts_of, value_of, postings, final_price, carried_by}
+use Rattle.tally.specs.Pages.{Page}
+use Rattle.tally.specs.Questions.{questions, verdict, first_unmet, find, is_due, is_buildable, between}
 use Rattle.tally.specs.Runs.{Entry, fed, begun, entry, log, log_from, page_of, shown, tally}
 use Rattle.tally.proofs.Clock.{Clocked, clocked}
 use Rattle.tally.proofs.Facts.{met, between_is, length_numbered, get_d_numbered, someone}
@@ -40,7 +40,7 @@ told_begun c = record {
   price = refl;
   rate = refl;
   waits = refl;
-  running = λ _. record { unended = refl; contracts = λ side k. sides side k; values = λ side k. worths side k };
+  running = λ _. grind arith;
   ended = λ e. absurd (false≢true e);
 }
   where
@@ -54,7 +54,7 @@ told_begun c = record {
 
 served_begun : Served [] begun
 unfolding designations designated sellers notices_from
-served_begun = record { parts = []; answered = refl; in_order = λ p. refl; past = tt; once = λ s lt. ([], refl) }
+served_begun = grind arith
 
 module _ (c : Terms) (windows : c.delivers ≡ false → c.closes ≡ 0) where
   standing_begun : Standing c [] begun
@@ -79,21 +79,11 @@ module _ (c : Terms) (windows : c.delivers ≡ false → c.closes ≡ 0) where
 -- ---- what the log counts is what the tally counts
 module _ (c : Terms) (xs : List Entry) (t : Tally) (told : Told c xs t) where
   counts : (side : Side) (k : ℕ) → Registered (length t.parties) k → (contracts_of k (side_of side t) ≡ counted side xs k) × (value_of k (side_of side t) ≡ value side xs k)
-  counts side k r =
-      elim t.expired as (λ b. t.expired ≡ b → (contracts_of k (side_of side t) ≡ counted side xs k) × (value_of k (side_of side t) ≡ value side xs k)) [
-        | true ↦ λ e. let f = told.ended e in (f.contracts side k r, f.values side k r)
-        | false ↦ λ e.
-            let f = told.running e in (
-              omega (arith, f.contracts side k, ap (λ o. elim o as (λ _. ℕ) [ None ↦ 0 | Some g ↦ at_expiry side (open_contracts xs k) ]) f.unended),
-              omega (arith, f.values side k, ap (λ o. elim o as (λ _. ℕ) [ None ↦ 0 | Some g ↦ g * at_expiry side (open_contracts xs k) ]) f.unended),
-            )
-      ] refl
+  counts side k r = grind arith
 
   carries : (k : ℕ) → Registered (length t.parties) k → carried t k ≡ carried_by xs k
   unfolding net
-  carries k r =
-      ap (λ n. pos n -ℤ pos (length (prices k t.sold))) (prices_count k t.bought ∙ (counts bought k r).0)
-      ∙ ap (λ n. pos (counted bought xs k) -ℤ pos n) (prices_count k t.sold ∙ (counts sold k r).0)
+  carries k r = grind (arith, prices_count, counts)
 
   worth : (k : ℕ) → Registered (length t.parties) k →
       position c.size t.price (prices k t.bought) (prices k t.sold) ≡ pos c.size *ℤ (((carried_by xs k *ℤ pos (settlement_price xs)) +ℤ pos (value sold xs k)) -ℤ pos (value bought xs k))
@@ -106,8 +96,7 @@ module _ (c : Terms) (xs : List Entry) (t : Tally) (told : Told c xs t) where
 
 -- the account that the tally shows under a number
 pub shows_account : (c : Terms) (t : Tally) (k : ℕ) → Registered (length t.parties) k → find (seen c.size t) k ≡ account c.size t k (get_or t.parties (k - 1) someone)
-shows_account c t k r =
-    get_d_numbered (account c.size t) 1 t.parties (k - 1) nobody someone (omega arith) ∙ ap (λ j. account c.size t j (get_or t.parties (k - 1) someone)) (omega arith)
+shows_account c t k r = grind (arith, get_d_numbered, someone)
 
 -- ---- a call that a run meets
 module _ (c : Terms) (b : Buildable c) (t : Tally) (h : Sound c t) (k : Clocked c t) where
@@ -141,16 +130,15 @@ module _ (c : Terms) (b : Buildable c) (t : Tally) (h : Sound c t) (k : Clocked 
 
   undue_met : (m : Marking) (room : ℕ) → verdict c v (marking m room) ≡ None → AllByRecursion (λ n. n.session ≡ t.session) t.notices
   unfolding questions
-  undue_met m room q = ordered_undue 0 t.session t.notices (not-true (is_due t.session t.notices) (met _ _ (met _ _ q).1).0) h.ordered
+  undue_met m room q = grind (arith, ordered_undue, not-true, met)
 
   none_due : (verdict c v designating ≡ None → ⊥) → is_due t.session t.notices ≡ false
   unfolding questions first_unmet
-  none_due refused =
-      elim (is_due t.session t.notices) as (λ x. is_due t.session t.notices ≡ x → x ≡ false) [ true ↦ λ e. absurd (refused (rw e refl)) | false ↦ λ _. refl ] refl
+  none_due refused = grind arith
 
   lot_found : (n : Notice) (ns : List Notice) → t.notices ≡ n ∷ ns → n.session < t.session → (ls : List Lot) → t.lots ≡ ls → (l : Lot) × (rest : List Lot) × (t.lots ≡ l ∷ rest) × AllByRecursion (λ x. l.session ≤ x.session) rest
   lot_found n ns nx due [] el = absurd (finds_lot c t h n ns nx due el)
-  lot_found n ns nx due (l ∷ ls) el = (l, ls, el, oldest_first l.session l.owner t.session ls (rw el at h.lots_ordered).3)
+  lot_found n ns nx due (l ∷ ls) el = grind (arith, oldest_first)
 
   pub call_met : (e : Event) → Met c t e
   call_met e = record {
@@ -168,7 +156,7 @@ module _ (c : Terms) where
 
   log_append : (t : Tally) (xs ys : List Event) → log_from c t (xs ++ ys) ≡ log_from c t xs ++ log_from c (fold (fed c) t xs) ys
   log_append t [] ys = refl
-  log_append t (x ∷ xs) ys = ap (λ l. entry c (seen c.size t) x ∷ l) (log_append (fed c t x) xs ys)
+  log_append t (x ∷ xs) ys = grind (arith, log_append (fed c t x) xs ys)
 
 pub settled : SettlementLaw
 unfolding account
@@ -185,11 +173,11 @@ settled c b es =
       price_settled = ap (λ w. w.price) e ∙ s.told.price;
       rate_settled = ap (λ w. w.rate) e ∙ s.told.rate;
       carried_counted = λ k r. ap (λ w. (find w k).carried) e ∙ ap (λ a. a.carried) (shows_account c t k (inside k r)) ∙ carries c (log c es) t s.told k (inside k r);
-      totals_match_positions = λ k r. ap (λ w. (find w k).total) e ∙ ap (λ a. a.total) (shows_account c t k (inside k r)) ∙ worth c (log c es) t s.told k (inside k r);
-      totals_sum_to_zero = ap (λ w. sumℤ (totals w)) e ∙ totals_zero c.size t s.sound.balanced;
-      lots_are_long = λ k r. ap (λ w. in_lots k w.lots) e ∙ s.sound.lots_are k (inside k r) ∙ ap long (sym (ap (λ w. (find w k).carried) e ∙ ap (λ a. a.carried) (shows_account c t k (inside k r))));
+      totals_match_positions = λ k r. grind (arith, shows_account, worth);
+      totals_sum_to_zero = grind (arith, totals_zero);
+      lots_are_long = λ k r. grind (arith, shows_account);
       lots_in_order = rw e s.sound.lots_ordered;
-      designated_in_order = all_in_order (log c es) t s.served ∙ ap (λ w. designated (designations (log c es)) ++ sellers w.notices) (sym e);
+      designated_in_order = grind (arith, all_in_order);
       designated_once = λ i lt. s.served.once i (rw e at lt);
       calls_met = λ front x back split. (
         call_met c b (tally c front) (sound c windows front) (clocked c front) x,

@@ -1,4 +1,5 @@
 -- The nine worked lines.
+use Rattle.std.proofs.Common.{arith}
 use Rattle.std.proofs.Common.{◌≡◌, ℕ, Some, None, refl}
 use Rattle.money.specs.Nearest.{nearest}
 use Rattle.money.specs.Pays.{paid_of}
@@ -19,15 +20,4 @@ refused c v rate room q = rw (q.open_session, q.none_due) refl
 
 pub worked_lines : WorkedLines
 unfolding nearest paid_of less_lots
-worked_lines = record {
-  credit_into_reais = refl;
-  debit_into_reais = refl;
-  half_a_centavo = refl;
-  less_than_half = refl;
-  third_into_dollars = refl;
-  halves_into_dollars = refl;
-  five_indexes = worked_line;
-  greatest_price = passes;
-  price_too_great = λ c v rate room q. (refused c v rate room q, refl);
-  aged_lots = refl;
-}
+worked_lines = grind (arith, worked_line, passes, refused)

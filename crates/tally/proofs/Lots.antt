@@ -1,11 +1,11 @@
 -- Lots: what each account holds after a marking or a designation, their order, and how many rows they take.
-use Rattle.std.proofs.Common.{◌≡◌, ℕ, ◌+◌, ◌-◌, ◌<◌, ◌≤◌, Bool, true, false, cond, eqb, ltb, leb, List, [], ◌∷◌, ◌++◌, length, ℤ, sym, refl, ap, ◌∙◌, ⊎_elim, arith}
+use Rattle.std.proofs.lemmas.Grind.{common_steps}
+use Rattle.std.proofs.Common.{◌≡◌, ℕ, ◌+◌, ◌-◌, ◌<◌, ◌≤◌, Bool, cond, eqb, ltb, List, [], ◌∷◌, ◌++◌, length, ℤ, refl, ◌∙◌, ⊎_elim, arith}
 use Rattle.std.specs.List.{AllByRecursion}
-use Rattle.std.proofs.ByRecursion.{All-append}
 use Rattle.std.proofs.lemmas.List.{length-append}
 use Rattle.std.proofs.lemmas.Bool.{eq-eqb, ne_eqb, cases_eq, leb-false, ltb-true}
 use Rattle.std.proofs.lemmas.Bool.Decides.{nat_tests}
-use Rattle.aged.specs.Line.{take_picked, owned_by, every}
+use Rattle.aged.specs.Line.{take_picked, every}
 use Rattle.tally.specs.declared.rows.Lot.{Lot}
 use Rattle.tally.specs.Account.{long}
 use Rattle.tally.specs.Book.{numbered}
@@ -40,8 +40,7 @@ less_other j k n ls d = held_other lot_counting whose same_owner j k n d ls
 pub lots_stranger : (n k : ℕ) (ls : List Lot) → n < k → AllByRecursion (λ l. Registered n l.owner) ls → in_lots k ls ≡ 0
 unfolding in_lots
 lots_stranger n k [] lt h = refl
-lots_stranger n k (l ∷ ls) lt h =
-    omega (arith, held_cons lot_counting whose same_owner k l ls, ap (λ b. cond b l.count 0) (ne_eqb l.owner k (λ e. omega (arith, h.0.1))), lots_stranger n k ls lt h.1)
+lots_stranger n k (l ∷ ls) lt h = grind (arith, held_cons, same_owner, ne_eqb, lots_stranger n k ls lt h.1)
 
 pub none_in_lots : (k : ℕ) → in_lots k [] ≡ 0
 unfolding in_lots
@@ -53,17 +52,11 @@ new_lot s k before after = record { owner = k; session = s; count = long after -
 
 aged_own : (s k : ℕ) (before after : ℤ) (ls : List Lot) → in_lots k ls ≡ long before → in_lots k (aged s k before after ls) ≡ long after
 unfolding aged
-aged_own s k before after ls e =
-    let a : in_lots k (ls ++ new_lot s k before after ∷ []) ≡ in_lots k ls + (long after - long before) = lots_push k ls (new_lot s k before after) ∙ ap (λ b. in_lots k ls + cond b (long after - long before) 0) (eq-eqb k k refl) in
-    let b = less_own k (long before - long after) ls in
-    grind (arith, nat_tests)
+aged_own s k before after ls e = grind (arith, lots_push, eq-eqb, less_own, nat_tests)
 
 aged_other : (s j k : ℕ) (before after : ℤ) (ls : List Lot) → (j ≡ k → ⊥) → in_lots k (aged s j before after ls) ≡ in_lots k ls
 unfolding aged
-aged_other s j k before after ls d =
-    let a : in_lots k (ls ++ new_lot s j before after ∷ []) ≡ in_lots k ls = lots_push k ls (new_lot s j before after) ∙ ap (λ b. in_lots k ls + cond b (long after - long before) 0) (ne_eqb j k d) ∙ omega arith in
-    let b = less_other j k (long before - long after) ls d in
-    grind (arith, nat_tests)
+aged_other s j k before after ls d = grind (arith, lots_push, ne_eqb, less_other, nat_tests)
 
 -- ---- all accounts at a marking
 module _ {X : Type 0} (s : ℕ) (c : ℕ → Change) where
@@ -73,8 +66,7 @@ module _ {X : Type 0} (s : ℕ) (c : ℕ → Change) where
   turned_before : (k n : ℕ) (xs : List X) (ls : List Lot) → k < n → in_lots k (turned s n (numbered of n xs) ls) ≡ in_lots k ls
   unfolding turned numbered
   turned_before k n [] ls lt = refl
-  turned_before k n (x ∷ xs) ls lt =
-      turned_before k (n + 1) xs (aged s n (c n).before (c n).after ls) (omega arith) ∙ aged_other s n k (c n).before (c n).after ls (λ e. omega arith)
+  turned_before k n (x ∷ xs) ls lt = grind (arith, aged_other, turned_before k (n + 1) xs (aged s n (c n).before (c n).after ls) (omega arith))
 
   pub turned_own : (k n : ℕ) (xs : List X) (ls : List Lot) → n ≤ k → k < n + length xs → in_lots k ls ≡ long (c k).before → in_lots k (turned s n (numbered of n xs) ls) ≡ long (c k).after
   unfolding turned numbered
@@ -85,10 +77,7 @@ module _ {X : Type 0} (s : ℕ) (c : ℕ → Change) where
       (cases_eq n k)
     where
       at_own : n ≡ k → in_lots k (turned s (n + 1) (numbered of (n + 1) xs) (aged s n (c n).before (c n).after ls)) ≡ long (c k).after
-      at_own e =
-          turned_before k (n + 1) xs (aged s n (c n).before (c n).after ls) (omega arith)
-          ∙ ap (λ j. in_lots k (aged s j (c j).before (c j).after ls)) e
-          ∙ aged_own s k (c k).before (c k).after ls h
+      at_own e = grind (arith, turned_before, aged_own)
 
 -- ---- what stays true of every lot
 module _ (P : Lot → Type 0) (stays : (l : Lot) (m : ℕ) → 1 ≤ m → m ≤ l.count → P l → P (lot_counting.recount l m)) where
@@ -98,44 +87,27 @@ module _ (P : Lot → Type 0) (stays : (l : Lot) (m : ℕ) → 1 ≤ m → m ≤
 
   all_aged : (s k : ℕ) (b a : ℤ) (ls : List Lot) → (long b < long a → P (new_lot s k b a)) → AllByRecursion P ls → AllByRecursion P (aged s k b a ls)
   unfolding aged less_lots
-  all_aged s k b a ls new h =
-      elim (ltb (long b) (long a)) as (λ t. ltb (long b) (long a) ≡ t → AllByRecursion P (cond t (ls ++ new_lot s k b a ∷ []) (take_picked lot_counting (owned_by whose k) (long b - long a) ls))) [
-        | true ↦ λ e. All-append P ls (new_lot s k b a ∷ []) h (new (ltb-true (long b) (long a) e), tt)
-        | false ↦ λ e. all_left lot_counting (owned_by whose k) P stays (long b - long a) ls h
-      ] refl
+  all_aged s k b a ls new h = grind (arith, common_steps, ltb-true, all_left)
 
   pub all_turned : (s n : ℕ) (cs : List Change) (ls : List Lot) → ((k : ℕ) (b a : ℤ) → n ≤ k → k < n + length cs → long b < long a → P (new_lot s k b a)) → AllByRecursion P ls → AllByRecursion P (turned s n cs ls)
   unfolding turned
   all_turned s n [] ls new h = h
-  all_turned s n (x ∷ cs) ls new h =
-      all_turned s (n + 1) cs (aged s n x.before x.after ls) (λ k b a i j. new k b a (omega arith) (omega arith))
-      (all_aged s n x.before x.after ls (new n x.before x.after (omega arith) (omega arith)) h)
+  all_turned s n (x ∷ cs) ls new h = grind (arith, all_aged, all_turned s (n + 1) cs (aged s n x.before x.after ls) (λ k b a i j. new k b a (omega arith) (omega arith)))
 
 -- ---- order
 -- a bound further down bounds as well
 pub order_from : (s k s' k' n : ℕ) (ls : List Lot) → s ≤ s' → (s ≡ s' → k ≤ k') → LotsInOrder s' k' n ls → LotsInOrder s k n ls
 order_from s k s' k' n [] le same o = tt
-order_from s k s' k' n (l ∷ ls) le same o =
-    ((omega (arith, o.0.0), λ e. let both : s ≡ s' = omega (arith, o.0.0) in omega (arith, same both, o.0.1 (sym both ∙ e))), o.1, o.2, o.3)
+order_from s k s' k' n (l ∷ ls) le same o = grind arith
 
 pub order_until : (s k n m : ℕ) (ls : List Lot) → n ≤ m → LotsInOrder s k n ls → LotsInOrder s k m ls
 order_until s k n m [] le o = tt
-order_until s k n m (l ∷ ls) le o = (o.0, omega (arith, o.1), o.2, order_until l.session l.owner n m ls le o.3)
+order_until s k n m (l ∷ ls) le o = grind (arith, order_until l.session l.owner n m ls le o.3)
 
 module _ (picks : Lot → Bool) where
   order_left : (s k n m : ℕ) (ls : List Lot) → LotsInOrder s k n ls → LotsInOrder s k n (take_picked lot_counting picks m ls)
   order_left s k n m [] o = tt
-  order_left s k n m (l ∷ ls) o =
-      elim (eqb m 0) as (λ z. LotsInOrder s k n (cond z (l ∷ ls) (cond (picks l) (cond (leb l.count m) (take_picked lot_counting picks (m - l.count) ls) (lot_counting.recount l (l.count - m) ∷ ls)) (l ∷ take_picked lot_counting picks m ls)))) [
-        | true ↦ o
-        | false ↦ elim (picks l) as (λ p. LotsInOrder s k n (cond p (cond (leb l.count m) (take_picked lot_counting picks (m - l.count) ls) (lot_counting.recount l (l.count - m) ∷ ls)) (l ∷ take_picked lot_counting picks m ls))) [
-          | true ↦ elim (leb l.count m) as (λ b. leb l.count m ≡ b → LotsInOrder s k n (cond b (take_picked lot_counting picks (m - l.count) ls) (lot_counting.recount l (l.count - m) ∷ ls))) [
-            | true ↦ λ _. order_from s k l.session l.owner n (take_picked lot_counting picks (m - l.count) ls) o.0.0 (λ e. omega (arith, o.0.1 e)) (order_left l.session l.owner n (m - l.count) ls o.3)
-            | false ↦ λ e. (o.0, o.1, omega (arith, leb-false l.count m e), o.3)
-          ] refl
-          | false ↦ (o.0, o.1, o.2, order_left l.session l.owner n m ls o.3)
-        ]
-      ]
+  order_left s k n m (l ∷ ls) o = grind (arith, order_from, leb-false, order_left l.session l.owner n (m - l.count) ls o.3, order_left l.session l.owner n m ls o.3)
 
 pub order_less_oldest : (n m : ℕ) (ls : List Lot) → LotsInOrder 0 0 n ls → LotsInOrder 0 0 n (less_oldest_lots m ls)
 unfolding less_oldest_lots
@@ -164,7 +136,7 @@ oldest_first s k n ls o = from s k s ls (omega arith) o
 -- ---- order and length after a marking
 pub below_any : (s k n : ℕ) (ls : List Lot) → LotsInOrder s k n ls → AllByRecursion (Below n 1) ls
 below_any s k n [] o = tt
-below_any s k n (l ∷ ls) o = (λ e. absurd (omega (arith, o.1)), below_any l.session l.owner n ls o.3)
+below_any s k n (l ∷ ls) o = grind (arith, below_any l.session l.owner n ls o.3)
 
 below_more : (s k : ℕ) (ls : List Lot) → AllByRecursion (Below s k) ls → AllByRecursion (Below s (k + 1)) ls
 below_more s k [] h = tt
@@ -176,11 +148,7 @@ at_most s k n (l ∷ ls) o = (omega (arith, o.1), at_most l.session l.owner n ls
 
 order_aged : (s k : ℕ) (b a : ℤ) (ls : List Lot) → 1 ≤ k → AllByRecursion (Below s k) ls → LotsInOrder 0 0 (s + 1) ls → LotsInOrder 0 0 (s + 1) (aged s k b a ls)
 unfolding aged less_lots
-order_aged s k b a ls some below o =
-    elim (ltb (long b) (long a)) as (λ t. ltb (long b) (long a) ≡ t → LotsInOrder 0 0 (s + 1) (cond t (ls ++ new_lot s k b a ∷ []) (take_picked lot_counting (owned_by whose k) (long b - long a) ls))) [
-      | true ↦ λ e. order_push 0 0 (s + 1) ls (new_lot s k b a) (omega arith, λ _. omega arith) (omega arith) (omega (arith, ltb-true (long b) (long a) e)) (at_most 0 0 s ls o) below o
-      | false ↦ λ e. order_left (owned_by whose k) 0 0 (s + 1) (long b - long a) ls o
-    ] refl
+order_aged s k b a ls some below o = grind (arith, order_push, ltb-true, at_most, order_left)
 
 pub order_turned : (s n : ℕ) (cs : List Change) (ls : List Lot) → 1 ≤ n → AllByRecursion (Below s n) ls → LotsInOrder 0 0 (s + 1) ls → LotsInOrder 0 0 (s + 1) (turned s n cs ls)
 unfolding turned
@@ -197,16 +165,12 @@ openings (x ∷ cs) = cond (ltb (long x.before) (long x.after)) 1 0 + openings c
 
 length_aged : (s k : ℕ) (b a : ℤ) (ls : List Lot) → length (aged s k b a ls) ≤ length ls + cond (ltb (long b) (long a)) 1 0
 unfolding aged less_lots
-length_aged s k b a ls =
-    elim (ltb (long b) (long a)) as (λ t. length (cond t (ls ++ new_lot s k b a ∷ []) (take_picked lot_counting (owned_by whose k) (long b - long a) ls)) ≤ length ls + cond t 1 0) [
-      | true ↦ omega (arith, length-append ls (new_lot s k b a ∷ []))
-      | false ↦ omega (arith, no_longer lot_counting (owned_by whose k) (long b - long a) ls)
-    ]
+length_aged s k b a ls = grind (arith, length-append, no_longer)
 
 pub length_turned : (s n : ℕ) (cs : List Change) (ls : List Lot) → length (turned s n cs ls) ≤ length ls + openings cs
 unfolding turned openings
 length_turned s n [] ls = omega arith
-length_turned s n (x ∷ cs) ls = omega (arith, length_turned s (n + 1) cs (aged s n x.before x.after ls), length_aged s n x.before x.after ls)
+length_turned s n (x ∷ cs) ls = grind (arith, length_aged, length_turned s (n + 1) cs (aged s n x.before x.after ls))
 
 pub length_less_oldest : (m : ℕ) (ls : List Lot) → length (less_oldest_lots m ls) ≤ length ls
 unfolding less_oldest_lots

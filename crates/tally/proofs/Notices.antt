@@ -60,19 +60,14 @@ ordered_push lo hi (x ∷ ns) n le some e o = (o.0, o.1, o.2, ordered_push x.ses
 
 pub ordered_later : (lo hi h : ℕ) (ns : List Notice) → hi ≤ h → Ordered lo hi ns → Ordered lo h ns
 ordered_later lo hi h [] le o = tt
-ordered_later lo hi h (n ∷ ns) le o = (o.0, omega arith, o.2, ordered_later n.session hi h ns le o.3)
+ordered_later lo hi h (n ∷ ns) le o = grind (arith, ordered_later n.session hi h ns le o.3)
 
 ordered_from : (lo l hi : ℕ) (ns : List Notice) → l ≤ lo → Ordered lo hi ns → Ordered l hi ns
 ordered_from lo l hi [] le o = tt
 ordered_from lo l hi (n ∷ ns) le o = (omega arith, o.1, o.2, o.3)
 
 pub ordered_less : (lo hi m : ℕ) (n : Notice) (ns : List Notice) → m ≤ n.count → Ordered lo hi (n ∷ ns) → Ordered lo hi (less_oldest_notices m (n ∷ ns))
-ordered_less lo hi m n ns le o =
-    rw (less_is m n ns o.2 le) (
-    elim (leb n.count m) as (λ b. leb n.count m ≡ b → Ordered lo hi (cond b ns (notice_counting.recount n (n.count - m) ∷ ns))) [
-      | true ↦ λ _. ordered_from n.session lo hi ns o.0 o.3
-      | false ↦ λ e. (o.0, o.1, omega (arith, leb-false n.count m e), o.3)
-    ] refl)
+ordered_less lo hi m n ns le o = grind (arith, less_is, ordered_from, leb-false)
 
 ordered_same : (lo hi : ℕ) (ns : List Notice) → hi ≤ lo → Ordered lo hi ns → AllByRecursion (λ n. n.session ≡ hi) ns
 ordered_same lo hi [] le o = tt
@@ -80,7 +75,7 @@ ordered_same lo hi (n ∷ ns) le o = (omega arith, ordered_same n.session hi ns 
 
 pub ordered_undue : (lo hi : ℕ) (ns : List Notice) → is_due hi ns ≡ false → Ordered lo hi ns → AllByRecursion (λ n. n.session ≡ hi) ns
 ordered_undue lo hi [] e o = tt
-ordered_undue lo hi (n ∷ ns) e o = let le = ltb-false n.session hi e in (omega arith, ordered_same n.session hi ns le o.3)
+ordered_undue lo hi (n ∷ ns) e o = grind (arith, ltb-false, ordered_same)
 
 -- ---- what a seller has under notice since before a session
 unfoldable pub due : ℕ → ℕ → List Notice → ℕ
@@ -104,13 +99,13 @@ due_first k s m n ns some le lt = rw (less_is m n ns some le) (grind (arith, nat
 
 pub under_stranger : (n k : ℕ) (ns : List Notice) → n < k → AllByRecursion (λ x. Registered n x.seller) ns → under_notice k ns ≡ 0
 under_stranger n k [] lt h = none_under_notice k
-under_stranger n k (x ∷ ns) lt h = omega (arith, notices_cons k x ns, ap (λ b. cond b x.count 0) (ne_eqb x.seller k (λ e. omega (arith, h.0.1))), under_stranger n k ns lt h.1)
+under_stranger n k (x ∷ ns) lt h = grind (arith, notices_cons, ne_eqb, under_stranger n k ns lt h.1)
 
 -- ---- contract by contract
 pub sellers_append : (xs ys : List Notice) → sellers (xs ++ ys) ≡ sellers xs ++ sellers ys
 unfolding sellers
 sellers_append [] ys = refl
-sellers_append (x ∷ xs) ys = ap (λ l. replicate x.count x.seller ++ l) (sellers_append xs ys) ∙ sym (append_assoc (replicate x.count x.seller) (sellers xs) (sellers ys))
+sellers_append (x ∷ xs) ys = grind (arith, append_assoc, sellers_append xs ys)
 
 -- what is taken from the oldest notice stood before what is left
 pub sellers_first : (m : ℕ) (n : Notice) (ns : List Notice) → 1 ≤ n.count → m ≤ n.count → sellers (n ∷ ns) ≡ replicate m n.seller ++ sellers (less_oldest_notices m (n ∷ ns))

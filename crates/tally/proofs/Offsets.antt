@@ -1,13 +1,11 @@
 -- The first contracts of a side of the sheet, row by row: the step of a loop over the sheet.
-use Rattle.std.proofs.Common.{◌≡◌, ℕ, zero, suc, ◌+◌, ◌-◌, ◌*◌, min, cond, eqb, List, [], ◌∷◌, ◌++◌, length, take, replicate, sum, ap, ◌∙◌, arith}
+use Rattle.std.proofs.Common.{◌≡◌, ℕ, zero, suc, ◌+◌, ◌-◌, ◌*◌, min, List, [], ◌∷◌, ◌++◌, length, take, replicate, sum, ap, ◌∙◌, arith}
 use Rattle.std.proofs.lemmas.List.Sums.{sum_by-cons}
-use Rattle.tally.specs.Book.{Posting, prices}
-use Rattle.tally.proofs.Numbered.{prices_append, prices_one}
 use Rattle.tally.proofs.Ring.{times}
 
 first_same : (n m x : ℕ) → sum (take n (replicate m x)) ≡ x * min n m
-first_same zero m x = let e : min 0 m ≡ 0 = omega arith in omega (arith, times x e)
-first_same (suc n) zero x = let e : min (suc n) 0 ≡ 0 = omega arith in omega (arith, times x e)
+first_same zero m x = grind arith
+first_same (suc n) zero x = grind arith
 first_same (suc n) (suc m) x =
     let e : min (suc n) (suc m) ≡ min n m + 1 = omega arith in
     sum_by-cons (λ y. y) x (take n (replicate m x)) ∙ omega (arith, first_same n m x, times x e)
@@ -22,10 +20,3 @@ first_push zero m x (y ∷ ys) = let e : min (0 - length (y ∷ ys)) m ≡ 0 = o
 first_push (suc n) m x (y ∷ ys) =
     let e : min (suc n - length (y ∷ ys)) m ≡ min (n - length ys) m = omega arith in
     omega (arith, sum_by-cons (λ z. z) y (take n (ys ++ replicate m x)), sum_by-cons (λ z. z) y (take n ys), first_push n m x ys, times x e)
-
--- one row more
-pub first_row : (k n : ℕ) (ps : List Posting) (p : Posting) →
-    sum (take n (prices k (ps ++ p ∷ []))) ≡ sum (take n (prices k ps)) + p.price * min (n - length (prices k ps)) (cond (eqb p.holder k) p.contracts 0)
-first_row k n ps p =
-    ap (λ l. sum (take n l)) (prices_append k ps (p ∷ []) ∙ ap (λ l. prices k ps ++ l) (prices_one k p))
-    ∙ first_push n (cond (eqb p.holder k) p.contracts 0) p.price (prices k ps)

@@ -1,11 +1,10 @@
 -- What a page owes an account fits a line of money.
-use Rattle.std.proofs.Common.{◌≡◌, ℕ, suc, ◌+◌, ◌*◌, ◌<◌, ◌≤◌, true, List, [], ◌∷◌, length, take, drop, ℤ, pos, negsuc, ◌+ℤ◌, ◌-ℤ◌, ◌*ℤ◌, neg_ℤ, nat_abs, sum, sym, refl, subst, arith}
-use borrow.Author.Differences.{up, down, sum_is_lem, neg_is, product_is, abs_is}
+use Rattle.std.proofs.Common.{◌≡◌, ℕ, ◌+◌, ◌*◌, ◌<◌, ◌≤◌, true, List, [], ◌∷◌, length, take, drop, ℤ, pos, negsuc, ◌+ℤ◌, ◌-ℤ◌, ◌*ℤ◌, neg_ℤ, sum, sym, refl, subst, arith}
+use borrow.Author.Differences.{sum_is_lem, neg_is, product_is}
 use Rattle.std.specs.List.{AllByRecursion}
 use Rattle.std.proofs.ByRecursion.{All-drop}
 use Rattle.std.proofs.lemmas.List.{length-drop}
 use Rattle.std.proofs.lemmas.List.Sums.{sum_by-take-le}
-use Rattle.std.proofs.lemmas.Bool.{le-leb}
 use Rattle.money.specs.Ranges.{is_amount}
 use Rattle.tally.specs.declared.rows.Account.{Account}
 use Rattle.tally.specs.declared.call.Registration.{Registration}
@@ -32,17 +31,15 @@ small_in m n a le p = omega (arith, p)
 
 -- a contract's size is 100 at most
 sized_in : (size n : ℕ) (z : ℤ) → size ≤ 100 → Small n z → Small (100 * n) (pos size *ℤ z)
-sized_in size n z le p = omega (arith, product_is (pos size) z, product size (up z) 100 n le p.0, product size (down z) 100 n le p.1)
+sized_in size n z le p = grind (arith, product_is, product)
 
 amount_in : (n : ℕ) (z : ℤ) → n ≤ 600000000000 → Small n z → is_amount z ≡ true
-amount_in n z le p = le-leb (nat_abs z) 600000000000 (omega (arith, p, abs_is z))
+amount_in n z le p = grind arith
 
 -- 3,000 contracts from one price to another
 span_in : (z : ℤ) (p q : ℕ) → p ≤ 999999 → q ≤ 999999 → Small 3000 z → Small 2999997000 (z *ℤ (pos p -ℤ pos q))
-span_in (pos n) p q a b s =
-    omega (arith, span_is (pos n) p q, one_is_0 (pos n *ℤ (pos p -ℤ pos q)), product p n 999999 3000 a s.0, product q n 999999 3000 b s.0)
-span_in (negsuc n) p q a b s =
-    omega (arith, span_is (negsuc n) p q, one_is_0 (negsuc n *ℤ (pos p -ℤ pos q)), product p (suc n) 999999 3000 a s.1, product q (suc n) 999999 3000 b s.1)
+span_in (pos n) p q a b s = grind (arith, span_is, one_is_0, product)
+span_in (negsuc n) p q a b s = grind (arith, span_is, one_is_0, product)
 
 above_in : (p : ℕ) (xs : List ℕ) → p ≤ 999999 → AllByRecursion (λ x. x ≤ 999999) xs → Small (999999 * length xs) (above p xs)
 above_in p xs le h = omega (arith, above_is p xs, one_is_0 (above p xs), sum_in xs h, product p (length xs) 999999 (length xs) le (omega arith))
@@ -91,7 +88,7 @@ module _ (size : ℕ) (sized : size ≤ 100) (b s : List ℕ) (few_b : length b 
 all_numbered : {X Y : Type 0} (P : Y → Type 0) (f : ℕ → X → Y) (n : ℕ) (xs : List X) → ((k : ℕ) (x : X) → n ≤ k → k < n + length xs → P (f k x)) → AllByRecursion P (numbered f n xs)
 unfolding numbered
 all_numbered P f n [] h = tt
-all_numbered P f n (x ∷ xs) h = (h n x (omega arith) (omega arith), all_numbered P f (n + 1) xs (λ k y a b. h k y (omega arith) (omega arith)))
+all_numbered P f n (x ∷ xs) h = grind (arith, all_numbered P f (n + 1) xs (λ k y a b. h k y (omega arith) (omega arith)))
 
 module _ (c : Terms) (sized : c.size ≤ 100) (t : Tally) (clock : Clocked c t) (d : BoundedTally t) where
   abbrev v : View

@@ -1,6 +1,6 @@
 -- A page whose owed amounts sum to zero weighs what its remainder says, and that is within what its converted lines allow.
 use Rattle.std.proofs.Common.{◌≡◌, ℕ, ◌<◌, List, [], ◌∷◌, map, ℤ, pos, ◌+ℤ◌, ◌-ℤ◌, ◌*ℤ◌, sym, refl, ap, ◌∙◌, arith}
-use lib.IntN.{*ℤ_comm, *ℤ-zero}
+use lib.IntN.{*ℤ_comm}
 use borrow.Author.Differences.{ints}
 use Rattle.money.specs.declared.currency.Currency.{Currency}
 use Rattle.money.specs.declared.currency.Currency.TheVariants.{Real, Dollar}
@@ -37,12 +37,8 @@ none_plus z = omega (arith, ints)
 line_weighs : (contract : Currency) (rate : ℕ) (payee : Residency) (owed : ℤ) →
     (pos 1000000 *ℤ paid_as Real payee (paid_of owed contract payee rate)) +ℤ (pos rate *ℤ paid_as Dollar payee (paid_of owed contract payee rate))
     ≡ (pos (weight contract rate) *ℤ owed) +ℤ (payment_of owed contract payee rate).remainder
-line_weighs contract rate Resident owed =
-    ap (λ z. (pos 1000000 *ℤ paid_of owed contract Resident rate) +ℤ z) (*ℤ-zero (pos rate)) ∙ plus_none (pos 1000000 *ℤ paid_of owed contract Resident rate)
-    ∙ over_owed 1000000 (weight contract rate) (paid_of owed contract Resident rate) owed
-line_weighs contract rate Nonresident owed =
-    ap (λ z. z +ℤ (pos rate *ℤ paid_of owed contract Nonresident rate)) (*ℤ-zero (pos 1000000)) ∙ none_plus (pos rate *ℤ paid_of owed contract Nonresident rate)
-    ∙ over_owed rate (weight contract rate) (paid_of owed contract Nonresident rate) owed
+line_weighs contract rate Resident owed = grind (arith, owed, plus_none, over_owed)
+line_weighs contract rate Nonresident owed = grind (arith, owed, none_plus, over_owed)
 
 regroup : (a b c d e f r s : ℤ) → a +ℤ c ≡ e +ℤ r → b +ℤ d ≡ f +ℤ s → (a +ℤ b) +ℤ (c +ℤ d) ≡ (e +ℤ f) +ℤ (r +ℤ s)
 regroup a b c d e f r s p q = omega (arith, ints)
@@ -106,7 +102,7 @@ module _ (c : Terms) (rate : ℕ) (some : 0 < rate) (owes : Listed → Owed) whe
 
   pub balances : (xs : List Listed) → sumℤ (map (λ x. (owes x).day_trade +ℤ (owes x).margin) xs) ≡ pos 0 → Balances c rate (page c rate owes xs)
   balances xs z = record {
-    weighs = weighs xs ∙ ap (λ o. (pos (weight c.currency rate) *ℤ o) +ℤ remainder_sum (lines c rate owes xs)) (owed_both xs ∙ z) ∙ none (weight c.currency rate) (remainder_sum (lines c rate owes xs));
+    weighs = grind (arith, weighs, owed_both, none);
     allowed = allowed xs;
   }
     where

@@ -1,4 +1,5 @@
 -- One account at a marking: what was accumulated is the formula.
+use Rattle.std.proofs.lemmas.Grind.{common_steps}
 use Rattle.std.proofs.Common.{◌≡◌, ℕ, zero, suc, ◌+◌, ◌*◌, List, [], ◌∷◌, ◌++◌, length, take, drop, replicate, ℤ, pos, ◌+ℤ◌, ◌-ℤ◌, ◌*ℤ◌, neg_ℤ, sum, sym, refl, ap, ◌∙◌, arith}
 use borrow.Author.Differences.{up, down, sum_is_lem, neg_is, product_is, same_in, ints}
 use Rattle.std.proofs.lemmas.List.{length-append, length-drop, length-replicate}
@@ -17,7 +18,7 @@ above_is p (x ∷ xs) = omega (arith, ints, above_is p xs, sum_by-cons (λ y. y)
 
 pub sum_replicate : (n p : ℕ) → sum (replicate n p) ≡ p * n
 sum_replicate zero p = omega arith
-sum_replicate (suc n) p = omega (arith, sum_replicate n p, sum_by-cons (λ y. y) p (replicate n p))
+sum_replicate (suc n) p = grind (arith, common_steps)
 
 -- the same without the size
 unfoldable pub worth : ℕ → List ℕ → List ℕ → ℤ
@@ -142,10 +143,7 @@ closed_position size price final B S =
     sym (mul_add (pos size) (worth price B S) c) ∙ ap (λ z. pos size *ℤ z) e
 
 pub closed_net : (final : ℕ) (B S : List ℕ) → pos 0 ≡ net (B ++ replicate (down (net B S)) final) (S ++ replicate (up (net B S)) final)
-closed_net final B S =
-    let b = replicate (down (net B S)) final in
-    let s = replicate (up (net B S)) final in
-    same_in _ _ (omega (arith, net_is B S, net_is (B ++ b) (S ++ s), length-append B b, length-append S s, length-replicate (down (net B S)) final, length-replicate (up (net B S)) final))
+closed_net final B S = grind (arith, same_in, net_is, length-append, length-replicate)
 
 pub position_is : (size price : ℕ) (B S : List ℕ) → up (position size price B S) + (size * sum B + size * price * length S) ≡ down (position size price B S) + (size * sum S + size * price * length B)
 unfolding position worth

@@ -1,5 +1,5 @@
 -- A log with one entry more.
-use Rattle.std.proofs.Common.{◌≡◌, ℕ, ◌+◌, ◌*◌, ◌<◌, true, false, cond, eqb, ltb, List, [], ◌∷◌, ◌++◌, length, replicate, Some, None, is_ok, sum, Option, sym, refl, ap, ◌∙◌, arith}
+use Rattle.std.proofs.Common.{◌≡◌, ℕ, ◌+◌, true, false, cond, List, [], ◌∷◌, ◌++◌, length, Some, None, is_ok, sum, Option, refl, arith}
 use Rattle.std.proofs.lemmas.List.{append_assoc, append-nil, length-append, length-replicate}
 use Rattle.std.proofs.lemmas.List.Sums.{sum_by-append}
 use Rattle.std.proofs.lemmas.Bool.{lt-ltb}
@@ -20,31 +20,27 @@ markings_push (y ∷ xs) x = omega (arith, markings_push xs x)
 pub trades_append : (xs ys : List Entry) → trades (xs ++ ys) ≡ trades xs ++ trades ys
 unfolding trades
 trades_append [] ys = refl
-trades_append (x ∷ xs) ys =
-    let own = cond (is_ok x.answer) (trade_in x.event) [] in
-    ap (λ l. own ++ l) (trades_append xs ys) ∙ sym (append_assoc own (trades xs) (trades ys))
+trades_append (x ∷ xs) ys = grind (arith, append_assoc, trades_append xs ys)
 
 abbrev pub own_trades : Entry → List Trade
 own_trades x = cond (is_ok x.answer) (trade_in x.event) []
 
 pub trades_push : (xs : List Entry) (x : Entry) → trades (xs ++ x ∷ []) ≡ trades xs ++ own_trades x
 unfolding trades
-trades_push xs x = trades_append xs (x ∷ []) ∙ ap (λ l. trades xs ++ l) (append-nil (own_trades x))
+trades_push xs x = grind (arith, trades_append, append-nil)
 
 pub designations_push : (xs : List Entry) (x : Entry) → designations (xs ++ x ∷ []) ≡ designations xs ++ designation_in x.answer
 unfolding designations
 designations_push [] x = append-nil (designation_in x.answer)
-designations_push (y ∷ xs) x = ap (λ l. designation_in y.answer ++ l) (designations_push xs x) ∙ sym (append_assoc (designation_in y.answer) (designations xs) (designation_in x.answer))
+designations_push (y ∷ xs) x = grind (arith, append_assoc, designations_push xs x)
 
 abbrev pub own_notices : ℕ → Entry → List Notice
 own_notices s x = cond (is_ok x.answer) (notice_in s x.event) []
 
 pub notices_push : (s : ℕ) (xs : List Entry) (x : Entry) → notices_from s (xs ++ x ∷ []) ≡ notices_from s xs ++ own_notices (s + markings xs) x
 unfolding notices_from markings
-notices_push s [] x = append-nil (own_notices s x) ∙ ap (λ n. own_notices n x) (omega arith)
-notices_push s (y ∷ xs) x =
-    ap (λ l. own_notices s y ++ l) (notices_push (s + cond (is_marking y) 1 0) xs x ∙ ap (λ n. notices_from (s + cond (is_marking y) 1 0) xs ++ own_notices n x) (omega arith))
-    ∙ sym (append_assoc (own_notices s y) (notices_from (s + cond (is_marking y) 1 0) xs) (own_notices (s + (cond (is_marking y) 1 0 + markings xs)) x))
+notices_push s [] x = grind arith
+notices_push s (y ∷ xs) x = grind (arith, append_assoc, notices_push (s + cond (is_marking y) 1 0) xs x)
 
 pub last_push : (f : Marking → ℕ) (p : ℕ) (xs : List Entry) (x : Entry) → last_marked f p (xs ++ x ∷ []) ≡ elim (marked_by x) [ None ↦ last_marked f p xs | Some m ↦ f m ]
 unfolding last_marked
@@ -73,17 +69,13 @@ final_push (y ∷ xs) x = two (final_push xs x) (ended_by y)
 pub closed_push : (xs : List Entry) (x : Entry) → is_marking x ≡ false → closed (xs ++ x ∷ []) ≡ closed xs
 unfolding closed markings
 closed_push [] x e = rw e refl
-closed_push (y ∷ xs) x e =
-    let same : cond (is_marking y) 1 0 + markings (xs ++ x ∷ []) ≡ cond (is_marking y) 1 0 + markings xs = omega (arith, markings_push xs x, ap {B = ℕ} (λ b. cond b 1 0) e) in
-    ap (λ n. cond (ltb 0 n) (y ∷ closed (xs ++ x ∷ [])) []) same ∙ ap (λ l. cond (ltb 0 (cond (is_marking y) 1 0 + markings xs)) (y ∷ l) []) (closed_push xs x e)
+closed_push (y ∷ xs) x e = grind (arith, markings_push, closed_push xs x e)
 
 -- a marking closes all
 pub closed_all : (xs : List Entry) (x : Entry) → is_marking x ≡ true → closed (xs ++ x ∷ []) ≡ xs ++ x ∷ []
 unfolding closed markings
 closed_all [] x e = rw e refl
-closed_all (y ∷ xs) x e =
-    let some : 0 < cond (is_marking y) 1 0 + markings (xs ++ x ∷ []) = omega (arith, markings_push xs x, ap {B = ℕ} (λ b. cond b 1 0) e) in
-    rw (lt-ltb 0 (cond (is_marking y) 1 0 + markings (xs ++ x ∷ [])) some) (ap (λ l. y ∷ l) (closed_all xs x e))
+closed_all (y ∷ xs) x e = grind (arith, markings_push, lt-ltb, closed_all xs x e)
 
 -- ---- counts
 pub contracts_append : (k : ℕ) (ps qs : List Posting) → contracts_of k (ps ++ qs) ≡ contracts_of k ps + contracts_of k qs
@@ -99,22 +91,14 @@ value_append k (p ∷ ps) qs = omega (arith, value_append k ps qs)
 pub prices_count : (k : ℕ) (ps : List Posting) → length (prices k ps) ≡ contracts_of k ps
 unfolding prices contracts_of
 prices_count k [] = refl
-prices_count k (p ∷ ps) =
-    elim (eqb p.holder k) as (λ b. length (cond b (replicate p.contracts p.price) [] ++ prices k ps) ≡ cond b p.contracts 0 + contracts_of k ps) [
-      | true ↦ omega (arith, length-append (replicate p.contracts p.price) (prices k ps), length-replicate p.contracts p.price, prices_count k ps)
-      | false ↦ omega (arith, prices_count k ps)
-    ]
+prices_count k (p ∷ ps) = grind (arith, length-append, length-replicate, prices_count k ps)
 
 pub prices_value : (k : ℕ) (ps : List Posting) → sum (prices k ps) ≡ value_of k ps
 unfolding prices value_of
 prices_value k [] = refl
-prices_value k (p ∷ ps) =
-    elim (eqb p.holder k) as (λ b. sum (cond b (replicate p.contracts p.price) [] ++ prices k ps) ≡ cond b (p.price * p.contracts) 0 + value_of k ps) [
-      | true ↦ omega (arith, sum_by-append (λ x. x) (replicate p.contracts p.price) (prices k ps), sum_replicate p.contracts p.price, prices_value k ps)
-      | false ↦ omega (arith, prices_value k ps)
-    ]
+prices_value k (p ∷ ps) = grind (arith, sum_by-append, sum_replicate, prices_value k ps)
 
 pub designated_append : (ds es : List Designation) → designated (ds ++ es) ≡ designated ds ++ designated es
 unfolding designated
 designated_append [] es = refl
-designated_append (d ∷ ds) es = ap (λ l. replicate d.contracts d.seller ++ l) (designated_append ds es) ∙ sym (append_assoc (replicate d.contracts d.seller) (designated ds) (designated es))
+designated_append (d ∷ ds) es = grind (arith, append_assoc, designated_append ds es)

@@ -1,8 +1,9 @@
 -- How many rows a tally takes, those that the next marking opens with them.
-use Rattle.std.proofs.Common.{◌≡◌, ℕ, ◌+◌, ◌<◌, ◌≤◌, false, cond, ltb, List, [], ◌∷◌, ◌++◌, length, None, count_by, refl, ap, ⊎_elim, arith}
+use Rattle.std.proofs.lemmas.Grind.{common_steps}
+use Rattle.std.proofs.Common.{◌≡◌, ℕ, ◌+◌, ◌<◌, ◌≤◌, false, cond, ltb, List, [], ◌∷◌, ◌++◌, length, None, count_by, refl, ap, arith}
 use Rattle.std.proofs.lemmas.List.{length-append}
 use Rattle.std.proofs.lemmas.List.Sums.{sum_by-cons}
-use Rattle.std.proofs.lemmas.Bool.{leb-true, ltb-true, lt-ltb, le-ltb, cases_lt}
+use Rattle.std.proofs.lemmas.Bool.{leb-true, ltb-true, cases_lt}
 use Rattle.tally.specs.declared.rows.Trade.{Trade}
 use Rattle.tally.specs.declared.rows.Lot.{Lot}
 use Rattle.tally.specs.declared.rows.Notice.{Notice}
@@ -30,16 +31,13 @@ abbrev opens : Change → ℕ
 opens x = cond (ltb (long x.before) (long x.after)) 1 0
 
 opens_none : (x : Change) → long x.after ≤ long x.before → opens x ≡ 0
-opens_none x le = ap (λ b. cond b 1 0) (le-ltb (long x.before) (long x.after) le)
+opens_none x le = grind arith
 
 opens_one : (x : Change) → long x.before < long x.after → opens x ≡ 1
-opens_one x lt = ap (λ b. cond b 1 0) (lt-ltb (long x.before) (long x.after) lt)
+opens_one x lt = grind arith
 
 opens_less : (x y : Change) → (long x.before < long x.after → long y.before < long y.after) → opens x ≤ opens y
-opens_less x y f = ⊎_elim
-    (λ (lt : long x.before < long x.after). omega (arith, opens_one x lt, opens_one y (f lt)))
-    (λ (le : long x.after ≤ long x.before). omega (arith, opens_none x le))
-    (cases_lt (long x.before) (long x.after))
+opens_less x y f = grind arith
 
 openings_push : (cs : List Change) (x : Change) → openings (cs ++ x ∷ []) ≡ openings cs + opens x
 unfolding openings
@@ -49,16 +47,13 @@ openings_push (y ∷ cs) x = omega (arith, openings_push cs x)
 openings_length : (cs : List Change) → openings cs ≤ length cs
 unfolding openings
 openings_length [] = omega arith
-openings_length (x ∷ cs) = ⊎_elim
-    (λ (lt : long x.before < long x.after). omega (arith, opens_one x lt, openings_length cs))
-    (λ (le : long x.after ≤ long x.before). omega (arith, opens_none x le, openings_length cs))
-    (cases_lt (long x.before) (long x.after))
+openings_length (x ∷ cs) = grind (arith, opens_one, opens_none, cases_lt, openings_length cs)
 
 module _ {X : Type 0} where
   openings_less : (f g : ℕ → X → Change) (n : ℕ) (xs : List X) → ((k : ℕ) (x : X) → n ≤ k → k < n + length xs → opens (f k x) ≤ opens (g k x)) → openings (numbered f n xs) ≤ openings (numbered g n xs)
   unfolding openings numbered
   openings_less f g n [] h = omega arith
-  openings_less f g n (x ∷ xs) h = omega (arith, h n x (omega arith) (omega arith), openings_less f g (n + 1) xs (λ k y a b. h k y (omega arith) (omega arith)))
+  openings_less f g n (x ∷ xs) h = grind (arith, openings_less f g (n + 1) xs (λ k y a b. h k y (omega arith) (omega arith)))
 
   openings_none : (f : ℕ → X → Change) (n : ℕ) (xs : List X) → ((k : ℕ) (x : X) → opens (f k x) ≡ 0) → openings (numbered f n xs) ≡ 0
   unfolding openings numbered
@@ -86,7 +81,7 @@ pub record Roomy (t : Tally) : Type 0 where
 
 pub roomy_begun : Roomy begun
 unfolding openings numbered
-roomy_begun = record { few_parties = omega arith; few_trades = omega arith; few_notices = omega arith; few_lots = omega arith }
+roomy_begun = grind arith
 
 module _ (c : Terms) (windows : c.delivers ≡ false → c.closes ≡ 0) (t : Tally) (h : Sound c t) (d : Roomy t) where
   abbrev v : View
@@ -101,7 +96,7 @@ module _ (c : Terms) (windows : c.delivers ≡ false → c.closes ≡ 0) (t : Ta
       let own = 1 + n in
       let lt : n < own = omega arith in
       record {
-        few_parties = omega (arith, ltb-true (length v.accounts) 64 q3.0, length_numbered (account c.size t) 1 t.parties, length-append t.parties (p ∷ []));
+        few_parties = grind (arith, ltb-true, length_numbered, length-append);
         few_trades = d.few_trades;
         few_notices = d.few_notices;
         few_lots = omega (
@@ -135,7 +130,7 @@ module _ (c : Terms) (windows : c.delivers ≡ false → c.closes ≡ 0) (t : Ta
       let q13 = met _ _ q12.1 in
       record {
         few_parties = d.few_parties;
-        few_trades = omega (arith, ltb-true (length t.waiting) 1024 q9.0, length-append t.waiting (w ∷ []));
+        few_trades = grind (arith, ltb-true, length-append);
         few_notices = d.few_notices;
         few_lots = omega (
           arith,
@@ -147,42 +142,15 @@ module _ (c : Terms) (windows : c.delivers ≡ false → c.closes ≡ 0) (t : Ta
 
   pub roomy_notice : (n : Notification) → verdict c v (noticing n) ≡ None → Roomy (entered t (noticing n))
   unfolding entered questions
-  roomy_notice n e =
-      let q15 = met _ _ (met _ _ e).1 in
-      let q6 = met _ _ q15.1 in
-      let q8 = met _ _ q6.1 in
-      let q16 = met _ _ q8.1 in
-      let q17 = met _ _ q16.1 in
-      record {
-        few_parties = d.few_parties;
-        few_trades = d.few_trades;
-        few_notices = simp length-append (omega (arith, ltb-true (length t.notices) 64 q17.0));
-        few_lots = d.few_lots;
-      }
+  roomy_notice n e = grind (arith, met, length-append, ltb-true)
 
   pub roomy_marking : (m : Marking) → Roomy (fed_marking t m)
   unfolding fed_marking prices
-  roomy_marking m = record {
-    few_parties = d.few_parties;
-    few_trades = omega arith;
-    few_notices = d.few_notices;
-    few_lots = omega (
-      arith,
-      d.few_lots,
-      length_turned t.session 1 (numbered (change t) 1 t.parties) t.lots,
-      openings_none (change (fed_marking t m)) 1 t.parties (λ k p. opens_none (change (fed_marking t m) k p)
-          (omega (arith, today_is (fed_marking t m) k, one_is_0 (today (fed_marking t m) k), net_is (prices k (fed_marking t m).bought) (prices k (fed_marking t m).sold)))),
-    );
-  }
+  roomy_marking m = grind (arith, common_steps, length_turned, openings_none, opens_none, today_is, one_is_0, today, net_is)
 
   pub roomy_expiry : (final : ℕ) → Roomy (fed_expiry t final)
   unfolding fed_expiry
-  roomy_expiry final = record {
-    few_parties = d.few_parties;
-    few_trades = d.few_trades;
-    few_notices = d.few_notices;
-    few_lots = omega (arith, d.few_parties, openings_length (numbered (change (fed_expiry t final)) 1 t.parties), length_numbered (change (fed_expiry t final)) 1 t.parties);
-  }
+  roomy_expiry final = grind (arith, openings_length, length_numbered)
 
   -- an account that opens a lot after a designation did so before
   pub roomy_designation : (x : Notice) (l : Lot) (xs : List Notice) (ls : List Lot) → t.notices ≡ x ∷ xs → t.lots ≡ l ∷ ls → x.session < t.session → Roomy (fed_designation t x l)
@@ -190,7 +158,7 @@ module _ (c : Terms) (windows : c.delivers ≡ false → c.closes ≡ 0) (t : Ta
   roomy_designation x l xs ls nx lx due_now = record {
     few_parties = d.few_parties;
     few_trades = d.few_trades;
-    few_notices = omega (arith, d.few_notices, length_less_notices (paired x l) t.notices);
+    few_notices = grind (arith, length_less_notices);
     few_lots = omega (
       arith,
       d.few_lots,

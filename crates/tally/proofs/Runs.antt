@@ -1,6 +1,6 @@
 -- Every run: what the book shows is what the tally shows, and the tally is sound.
-use Rattle.std.proofs.Common.{◌≡◌, ℕ, ◌+◌, true, false, cond, ◌&&◌, eqb, ltb, leb, List, [], ◌∷◌, ◌++◌, length, ℤ, Some, None, fold, sym, refl, ap, ◌∙◌, arith}
-use Rattle.std.proofs.lemmas.Bool.{ltb-true, eqb-true, and_parts}
+use Rattle.std.proofs.Common.{◌≡◌, ℕ, ◌+◌, true, false, List, [], ◌∷◌, ◌++◌, length, ℤ, Some, None, fold, sym, refl, ap, ◌∙◌, arith}
+use Rattle.std.proofs.lemmas.Bool.{ltb-true}
 use Rattle.tally.specs.declared.rows.Account.{Account}
 use Rattle.tally.specs.declared.rows.Trade.{Trade}
 use Rattle.tally.specs.declared.rows.Lot.{Lot}
@@ -10,7 +10,7 @@ use Rattle.tally.specs.Account.{net, position}
 use Rattle.tally.specs.Book.{Terms, Tally, View, numbered, prices, buys, sells, carried, account, seen}
 use Rattle.tally.specs.Events.{Event, registering, trading, quoting, noticing, designating, marking, expiring}
 use Rattle.tally.specs.Law.{Buildable}
-use Rattle.tally.specs.Questions.{questions, verdict, is_buildable, is_due, traded_account, between}
+use Rattle.tally.specs.Questions.{questions, verdict, is_buildable, is_due, traded_account}
 use Rattle.tally.specs.Runs.{after, fed, begun, shown, tally}
 use Rattle.tally.specs.Steps.{new_account, designate_oldest, fed_oldest, done, entered}
 use Rattle.tally.proofs.Facts.{met, count_buys, count_sells, prices_stranger}
@@ -23,10 +23,7 @@ use Rattle.tally.proofs.Square.{two, mark_square, designate_square, expire_squar
 -- a kind that does not deliver has no notice window
 pub no_window : (c : Terms) → Buildable c → c.delivers ≡ false → c.closes ≡ 0
 unfolding is_buildable
-no_window c b e =
-    let window = (and_parts (between 1 260 c.last) (cond c.delivers (leb 1 c.opens && (leb c.opens c.closes && ltb c.closes c.last)) (eqb c.opens 0 && eqb c.closes 0)) b.built).1 in
-    let none : (eqb c.opens 0 && eqb c.closes 0) ≡ true = rw e at window in
-    eqb-true c.closes 0 (and_parts (eqb c.opens 0) (eqb c.closes 0) none).1
+no_window c b e = grind arith
 
 module _ (c : Terms) (windows : c.delivers ≡ false → c.closes ≡ 0) (t : Tally) (h : Sound c t) where
   sound_oldest : (ns : List Notice) (ls : List Lot) → t.notices ≡ ns → t.lots ≡ ls → is_due t.session ns ≡ true → Sound c (fed_oldest t ns ls)
@@ -46,9 +43,7 @@ module _ (c : Terms) (windows : c.delivers ≡ false → c.closes ≡ 0) (t : Ta
   sound_entered (expiring (Some f) r) e = sound_expiry c windows t h f r e
 
   pub sound_fed : (e : Event) → Sound c (fed c t e)
-  sound_fed e =
-      let o = verdict c (seen c.size t) e in
-      elim o as (λ a. o ≡ a → Sound c (elim a [ None ↦ entered t e | Some _ ↦ t ])) [ None ↦ sound_entered e | Some _ ↦ λ _. h ] refl
+  sound_fed e = grind (arith, sound_entered)
 
   -- ---- the square
   abbrev v : View
@@ -79,14 +74,11 @@ module _ (c : Terms) (windows : c.delivers ≡ false → c.closes ≡ 0) (t : Ta
 
   traded : (w : Trade) (k : ℕ) (p : Registration) → traded_account w k (account c.size t k p) ≡ account c.size (entered t (trading w)) k p
   unfolding account traded_account entered
-  traded w k p = two (λ b s. made p (carried t k) b s (position c.size t.price (prices k t.bought) (prices k t.sold)))
-      (sym (count_buys k t.waiting w)) (sym (count_sells k t.waiting w))
+  traded w k p = grind (arith, two, count_buys, count_sells)
 
   square_trade : (w : Trade) → done c v (trading w) ≡ seen c.size (entered t (trading w))
   unfolding done entered
-  square_trade w = ap (λ xs. with xs (t.waiting ++ w ∷ []))
-      (numbered_twice (traded_account w) (account c.size t) 1 t.parties
-      ∙ numbered_same (λ k p. traded_account w k (account c.size t k p)) (account c.size (entered t (trading w))) 1 t.parties (λ k p _ _. traded w k p))
+  square_trade w = grind (arith, numbered_twice, numbered_same, traded)
 
   square_oldest : (ns : List Notice) (ls : List Lot) → designate_oldest v ns ls ≡ seen c.size (fed_oldest t ns ls)
   square_oldest [] ls = refl
@@ -105,9 +97,7 @@ module _ (c : Terms) (windows : c.delivers ≡ false → c.closes ≡ 0) (t : Ta
   square_done (expiring (Some f) r) = expire_square c t f
 
   pub square : (e : Event) → after c v e ≡ seen c.size (fed c t e)
-  square e =
-      elim (verdict c v e) as (λ a. elim a [ None ↦ done c v e | Some _ ↦ v ] ≡ seen c.size (elim a [ None ↦ entered t e | Some _ ↦ t ]))
-      [ None ↦ square_done e | Some _ ↦ refl ]
+  square e = grind (arith, square_done)
 
 module _ (c : Terms) (windows : c.delivers ≡ false → c.closes ≡ 0) where
   sound_from : (t : Tally) → Sound c t → (es : List Event) → Sound c (fold (fed c) t es)
@@ -119,7 +109,7 @@ module _ (c : Terms) (windows : c.delivers ≡ false → c.closes ≡ 0) where
 
   shown_from : (t : Tally) → Sound c t → (es : List Event) → fold (after c) (seen c.size t) es ≡ seen c.size (fold (fed c) t es)
   shown_from t h [] = refl
-  shown_from t h (e ∷ es) = ap (λ w. fold (after c) w es) (square c windows t h e) ∙ shown_from (fed c t e) (sound_fed c windows t h e) es
+  shown_from t h (e ∷ es) = grind (arith, square, sound_fed, shown_from (fed c t e) (sound_fed c windows t h e) es)
 
   pub shown_is_seen : (es : List Event) → shown c es ≡ seen c.size (tally c es)
   unfolding numbered

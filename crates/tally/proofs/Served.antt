@@ -1,15 +1,14 @@
 -- Notices in the log: contracts noticed are contracts designated, in order and once, followed by contracts standing.
-use Rattle.std.proofs.Common.{◌≡◌, ℕ, ◌+◌, ◌-◌, ◌<◌, ◌≤◌, Bool, true, false, cond, ltb, leb, List, [], ◌∷◌, ◌++◌, replicate, Some, None, Ok, Err, filter, sym, refl, ap, ◌∙◌, ⊎_elim, arith}
+use Rattle.std.proofs.lemmas.Grind.{common_steps}
+use Rattle.std.proofs.Common.{◌≡◌, ℕ, ◌+◌, ◌-◌, ◌<◌, ◌≤◌, Bool, true, false, cond, ltb, leb, List, [], ◌∷◌, ◌++◌, replicate, Some, None, Ok, filter, sym, refl, ap, ◌∙◌, ⊎_elim, arith}
 use Rattle.std.specs.List.{AllByRecursion}
 use Rattle.std.proofs.lemmas.List.Elements.{filter-append}
-use Rattle.std.proofs.ByRecursion.{All-append, All-weaker}
+use Rattle.std.proofs.ByRecursion.{All-weaker}
 use Rattle.std.proofs.lemmas.List.{append_assoc, append-nil}
 use Rattle.std.proofs.lemmas.Bool.{ltb-true, le-ltb, lt-ltb, not-true, false≢true, cases_lt}
 use Rattle.tally.specs.declared.rows.Lot.{Lot}
 use Rattle.tally.specs.declared.rows.Notice.{Notice}
 use Rattle.tally.specs.declared.rows.Designation.{Designation}
-use Rattle.tally.specs.declared.rows.PageRow.{PageRow}
-use Rattle.tally.specs.Answers.{Answer}
 use Rattle.tally.specs.declared.call.Reply.TheVariants.{Designated}
 use Rattle.tally.specs.declared.call.Marking.{Marking}
 use Rattle.tally.specs.Book.{Terms, Tally, seen}
@@ -18,7 +17,7 @@ use Rattle.tally.specs.Logs.{designation_in, markings, designations, noticed, se
 use Rattle.tally.specs.Questions.{questions, verdict, is_due}
 use Rattle.tally.specs.Rows.{notice_counting}
 use Rattle.tally.specs.Runs.{Entry, answer, page_of, rows_of, designation_of, fed, entry}
-use Rattle.tally.specs.Steps.{entered, fed_oldest, fed_marking, fed_designation, fed_expiry, paired, noticed_in, less_oldest_notices}
+use Rattle.tally.specs.Steps.{entered, fed_oldest, fed_marking, fed_designation, fed_expiry, paired, less_oldest_notices}
 use Rattle.tally.proofs.Facts.{met}
 use Rattle.tally.proofs.Notices.{sellers_append, sellers_first, ordered_undue, less_is}
 use Rattle.tally.proofs.Pushes.{notices_push, own_notices, designations_push, designated_append}
@@ -30,7 +29,7 @@ abbrev of_sessions : (ℕ → Bool) → List Notice → List Notice
 of_sessions p ns = filter (λ n. p n.session) ns
 
 sessions_append : (p : ℕ → Bool) (xs ys : List Notice) → sellers (of_sessions p (xs ++ ys)) ≡ sellers (of_sessions p xs) ++ sellers (of_sessions p ys)
-sessions_append p xs ys = ap sellers (filter-append (λ n. p n.session) xs ys) ∙ sellers_append (of_sessions p xs) (of_sessions p ys)
+sessions_append p xs ys = grind (arith, filter-append, sellers_append)
 
 -- of some sessions too, what is taken from the oldest notice stood before what is left
 sessions_first : (p : ℕ → Bool) (m : ℕ) (n : Notice) (ns : List Notice) → 1 ≤ n.count → m ≤ n.count →
@@ -44,8 +43,8 @@ sessions_first p m n ns some le =
     kept : p n.session ≡ true → (l : Bool) →
         sellers (n ∷ of_sessions p ns) ≡ replicate m n.seller ++ sellers (cond l (of_sessions p ns) (notice_counting.recount n (n.count - m) ∷ of_sessions p ns)) →
         sellers (of_sessions p (n ∷ ns)) ≡ sellers (of_sessions p (notice_counting.recount n m ∷ [])) ++ sellers (of_sessions p (cond l ns (notice_counting.recount n (n.count - m) ∷ ns)))
-    kept e true parts = rw e (parts ∙ ap (λ y. y ++ sellers (of_sessions p ns)) (sym (append-nil (replicate m n.seller))))
-    kept e false parts = rw e (parts ∙ ap (λ y. y ++ sellers (notice_counting.recount n (n.count - m) ∷ of_sessions p ns)) (sym (append-nil (replicate m n.seller))))
+    kept e true parts = grind (arith, append-nil)
+    kept e false parts = grind (arith, append-nil)
 
     gone : p n.session ≡ false → (l : Bool) → sellers (of_sessions p (n ∷ ns)) ≡ sellers (of_sessions p (notice_counting.recount n m ∷ [])) ++ sellers (of_sessions p (cond l ns (notice_counting.recount n (n.count - m) ∷ ns)))
     gone e true = rw e refl
@@ -58,11 +57,11 @@ every_session (n ∷ ns) = ap (λ l. n ∷ l) (every_session ns)
 
 all_before : (s : ℕ) (ns : List Notice) → AllByRecursion (λ n. n.session < s) ns → before s ns ≡ ns
 all_before s [] h = refl
-all_before s (n ∷ ns) h = rw (lt-ltb n.session s h.0) (ap (λ l. n ∷ l) (all_before s ns h.1))
+all_before s (n ∷ ns) h = grind (arith, lt-ltb, all_before s ns h.1)
 
 none_before : (s : ℕ) (ns : List Notice) → AllByRecursion (λ n. n.session ≡ s) ns → before s ns ≡ []
 none_before s [] h = refl
-none_before s (n ∷ ns) h = rw (le-ltb n.session s (omega (arith, h.0))) (none_before s ns h.1)
+none_before s (n ∷ ns) h = grind (arith, le-ltb, none_before s ns h.1)
 
 pub record Served (xs : List Entry) (t : Tally) : Type 0 where
   -- what was designated, with the session that it was noticed in
@@ -88,7 +87,7 @@ quiet_served xs x t t' en ed h es ens =
     record {
       parts = h.parts;
       answered = ap designated d ∙ h.answered;
-      in_order = λ p. ap (λ l. sellers (of_sessions p l)) n ∙ h.in_order p ∙ ap (λ l. sellers (of_sessions p h.parts) ++ sellers (of_sessions p l)) (sym ens);
+      in_order = λ p. grind arith;
       past = rw es h.past;
       once = λ s lt. let o = h.once s (rw es at lt) in (o.0, ap designated d ∙ o.1 ∙ ap (λ l. sellers (before s l) ++ o.0) (sym n));
     }
@@ -103,10 +102,7 @@ module _ (c : Terms) (xs : List Entry) (t : Tally) (told : Told c xs t) (h : Sou
       record {
         parts = served.parts;
         answered = ap designated d ∙ served.answered;
-        in_order = λ p.
-            ap (λ l. sellers (of_sessions p l)) list ∙ sessions_append p (noticed xs) (n ∷ []) ∙ ap (λ l. l ++ sellers (of_sessions p (n ∷ []))) (served.in_order p)
-            ∙ append_assoc (sellers (of_sessions p served.parts)) (sellers (of_sessions p t.notices)) (sellers (of_sessions p (n ∷ [])))
-            ∙ ap (λ l. sellers (of_sessions p served.parts) ++ l) (sym (ap (λ l. sellers (of_sessions p l)) more ∙ sessions_append p t.notices (n ∷ [])));
+        in_order = λ p. grind (arith, sessions_append, append_assoc);
         past = rw same served.past;
         once = λ s lt.
             let below : s < t.session = omega (arith, same) in
@@ -121,7 +117,6 @@ module _ (c : Terms) (xs : List Entry) (t : Tally) (told : Told c xs t) (h : Sou
   unfolding fed_designation designated sellers
   served_designation x n ns l nx due event answered =
       let m = paired n l in
-      let some : 1 ≤ n.count = (rw nx at h.ordered).2 in
       let part : Notice = notice_counting.recount n m in
       let d : Designation = record { buyer = l.owner; seller = n.seller; contracts = m; price = t.price } in
       let none : own_notices (1 + markings xs) x ≡ [] = rw (event, answered) refl in
@@ -129,14 +124,9 @@ module _ (c : Terms) (xs : List Entry) (t : Tally) (told : Told c xs t) (h : Sou
       let more : designated (designations (xs ++ x ∷ [])) ≡ designated (designations xs) ++ designated (d ∷ []) = ap designated (designations_push xs x ∙ ap (λ a. designations xs ++ designation_in a) answered) ∙ designated_append (designations xs) (d ∷ []) in
       record {
         parts = served.parts ++ part ∷ [];
-        answered = more ∙ ap (λ y. y ++ designated (d ∷ [])) served.answered ∙ sym (sellers_append served.parts (part ∷ []));
-        in_order = λ p.
-            ap (λ y. sellers (of_sessions p y)) list ∙ served.in_order p
-            ∙ ap (λ y. sellers (of_sessions p served.parts) ++ y) (ap (λ y. sellers (of_sessions p y)) nx ∙ sessions_first p m n ns some (omega arith))
-            ∙ sym (append_assoc (sellers (of_sessions p served.parts)) (sellers (of_sessions p (part ∷ []))) (sellers (of_sessions p (less_oldest_notices m (n ∷ ns)))))
-            ∙ ap (λ y. y ++ sellers (of_sessions p (less_oldest_notices m (n ∷ ns)))) (sym (sessions_append p served.parts (part ∷ [])))
-            ∙ ap (λ y. sellers (of_sessions p (served.parts ++ part ∷ [])) ++ sellers (of_sessions p (less_oldest_notices m y))) (sym nx);
-        past = All-append (λ y. y.session < t.session) served.parts (part ∷ []) served.past (due, tt);
+        answered = grind (arith, sellers_append);
+        in_order = λ p. grind (arith, sessions_first, append_assoc, sessions_append);
+        past = grind (arith, common_steps);
         once = λ s lt. let o = served.once s lt in
             (o.0 ++ designated (d ∷ []), more ∙ ap (λ y. y ++ designated (d ∷ [])) o.1 ∙ append_assoc (sellers (before s (noticed xs))) o.0 (designated (d ∷ [])) ∙ ap (λ y. sellers (before s y) ++ (o.0 ++ designated (d ∷ []))) (sym list));
       }
@@ -174,23 +164,14 @@ module _ (c : Terms) (xs : List Entry) (t : Tally) (told : Told c xs t) (h : Sou
 
   served_entered : (e : Event) → verdict c (seen c.size t) e ≡ None → Served (xs ++ taken e ∷ []) (entered t e)
   unfolding entered questions fed_expiry
-  served_entered (registering r) q = quiet_served xs (taken (registering r)) t (entered t (registering r)) refl refl served refl refl
-  served_entered (trading w) q = quiet_served xs (taken (trading w)) t (entered t (trading w)) refl refl served refl refl
-  served_entered (quoting x reply) q = quiet_served xs (taken (quoting x reply)) t t refl refl served refl refl
-  served_entered (noticing n) q =
-      served_notice (taken (noticing n)) (noticed_in t.session n) refl (ap (λ i. noticed_in i n ∷ []) (sym told.session)) refl (entered t (noticing n)) refl refl
+  served_entered (registering r) q = grind (arith, quiet_served)
+  served_entered (trading w) q = grind (arith, quiet_served)
+  served_entered (quoting x reply) q = grind (arith, quiet_served)
+  served_entered (noticing n) q = grind (arith, served_notice)
   served_entered designating q = served_oldest t.notices t.lots refl refl (met _ _ q).0
-  served_entered (marking m room) q =
-      served_marking (taken (marking m room)) m refl refl
-      (ordered_undue 0 t.session t.notices (not-true (is_due t.session t.notices) (met _ _ (met _ _ q).1).0) h.ordered)
+  served_entered (marking m room) q = grind (arith, served_marking, ordered_undue, not-true, met)
   served_entered (expiring None room) q = absurd (false≢true (met _ _ (met _ _ q).1).0)
-  served_entered (expiring (Some final) room) q = quiet_served xs (taken (expiring (Some final) room)) t (fed_expiry t final) refl refl served refl refl
+  served_entered (expiring (Some final) room) q = grind (arith, quiet_served)
 
   pub served_fed : (e : Event) → Served (xs ++ entry c (seen c.size t) e ∷ []) (fed c t e)
-  served_fed e =
-      let v = seen c.size t in
-      let o = verdict c v e in
-      elim o as (λ a. o ≡ a → Served
-      (xs ++ record { event = e; answer = elim a as (λ _. Answer) [ None ↦ answer c v e | Some r ↦ Err r ]; rows = elim a as (λ _. List PageRow) [ None ↦ rows_of (page_of c v e) | Some _ ↦ [] ] } ∷ [])
-      (elim a as (λ _. Tally) [ None ↦ entered t e | Some _ ↦ t ]))
-      [ None ↦ served_entered e | Some r ↦ λ _. quiet_served xs (record { event = e; answer = Err r; rows = [] }) t t refl refl served refl refl ] refl
+  served_fed e = grind (arith, served_entered, quiet_served)

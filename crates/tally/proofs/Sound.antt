@@ -12,12 +12,12 @@ use Rattle.tally.specs.declared.call.Registration.{Registration}
 use Rattle.tally.specs.declared.call.Notification.{Notification}
 use Rattle.tally.specs.declared.call.Marking.{Marking}
 use Rattle.tally.specs.Account.{long, short, net}
-use Rattle.tally.specs.Book.{Terms, Tally, View, numbered, prices, buys, sells, carried, account, seen}
+use Rattle.tally.specs.Book.{Terms, Tally, View, prices, buys, sells, carried, seen}
 use Rattle.tally.specs.Events.{registering, trading, noticing, marking, expiring}
 use Rattle.tally.specs.Law.{Registered, LotsInOrder}
 use Rattle.tally.specs.Questions.{verdict, questions, find, net_of, in_lots, under_notice}
 use Rattle.tally.specs.Runs.{begun}
-use Rattle.tally.specs.Steps.{Change, change, paired, noticed_in, less_oldest_lots, less_oldest_notices, entered, fed_marking, fed_designation, fed_expiry}
+use Rattle.tally.specs.Steps.{Change, paired, noticed_in, less_oldest_lots, less_oldest_notices, entered, fed_marking, fed_designation, fed_expiry}
 use Rattle.tally.proofs.Balance.{Balanced}
 use Rattle.tally.proofs.Positions.{net_is}
 use Rattle.tally.proofs.Square.{closed_carried}
@@ -41,18 +41,7 @@ pub record Sound (c : Terms) (t : Tally) : Type 0 where
 
 pub sound_begun : (c : Terms) → Sound c begun
 unfolding due prices net
-sound_begun c = record {
-  balanced = record { buyers = tt; sellers = tt; traders = tt; evenly = refl; values = refl };
-  sellers = tt;
-  holders = tt;
-  ordered = tt;
-  lots_ordered = tt;
-  started = omega arith;
-  lots_are = λ k r. none_in_lots k;
-  due_short = λ k. omega arith;
-  under_short = λ k. omega (arith, none_under_notice k);
-  mini = λ _. refl;
-}
+sound_begun c = grind (arith, none_in_lots, none_under_notice)
 
 module _ (c : Terms) (windows : c.delivers ≡ false → c.closes ≡ 0) (t : Tally) (h : Sound c t) where
   abbrev v : View
@@ -86,7 +75,7 @@ module _ (c : Terms) (windows : c.delivers ≡ false → c.closes ≡ 0) (t : Ta
       }
 
   pub registers : (k : ℕ) → leb 1 k && leb k (length v.accounts) ≡ true → Registered (length t.parties) k
-  registers k e = let b = between_is 1 (length v.accounts) k e in (b.0, omega (arith, length_numbered (account c.size t) 1 t.parties))
+  registers k e = grind (arith, between_is, length_numbered)
 
   pub sound_trade : (w : Trade) → verdict c v (trading w) ≡ None → Sound c (entered t (trading w))
   unfolding entered questions
@@ -156,38 +145,31 @@ module _ (c : Terms) (windows : c.delivers ≡ false → c.closes ≡ 0) (t : Ta
       let open_now = between_is c.opens c.closes t.session q15.0 in
       let covered : under_notice x t.notices + m ≤ short (net_of (find v x)) = leb-true _ _ q16.0 in
       record {
-        balanced = record { buyers = h.balanced.buyers; sellers = h.balanced.sellers; traders = h.balanced.traders; evenly = h.balanced.evenly; values = h.balanced.values };
+        balanced = grind arith;
         sellers = All-push _ t.notices r h.sellers seller;
         holders = h.holders;
-        ordered = ordered_push 0 t.session t.notices r (omega arith) some.0 refl h.ordered;
+        ordered = grind (arith, ordered_push, some);
         lots_ordered = h.lots_ordered;
         started = h.started;
         lots_are = h.lots_are;
-        due_short = λ k. omega (arith, due_push k t.session t.notices r refl, h.due_short k);
-        under_short = λ k. ⊎_elim
-            (λ (p : x ≡ k). subst (λ j. under_notice j (t.notices ++ r ∷ []) ≤ short (today t j)) p
-            (omega (arith, covered, ap down (found c t x seller), notices_push x t.notices r, ap (λ b. cond b m 0) (eq-eqb x x refl))))
-            (λ (d : x ≡ k → ⊥). omega (arith, h.under_short k, notices_push k t.notices r, ap (λ b. cond b m 0) (ne_eqb x k d)))
-            (cases_eq x k);
+        due_short = λ k. grind (arith, due_push);
+        under_short = λ k. grind (arith, today, found, notices_push, eq-eqb, ne_eqb, cases_eq);
         mini = λ no. absurd (omega (arith, windows no, h.started, open_now.1));
       }
 
   pub sound_marking : (m : Marking) (room : ℕ) → Sound c (entered t (marking m room))
   unfolding entered fed_marking prices
   sound_marking m room =
-      let n = length t.parties in
       let changed : (k : ℕ) → Change = λ k. record { before = carried t k; after = today t k } in
       record {
         balanced = balanced_marking t m h.balanced;
         sellers = h.sellers;
-        holders = all_turned (λ l. Registered n l.owner) (λ l i _ _ r. r) t.session 1 (numbered (change t) 1 t.parties) t.lots
-            (λ k b a low high _. (low, omega (arith, length_numbered (change t) 1 t.parties))) h.holders;
-        ordered = ordered_later 0 t.session (t.session + 1) t.notices (omega arith) h.ordered;
-        lots_ordered = order_turned t.session 1 (numbered (change t) 1 t.parties) t.lots (omega arith) (below_any 0 0 t.session t.lots h.lots_ordered)
-            (order_until 0 0 t.session (t.session + 1) t.lots (omega arith) h.lots_ordered);
+        holders = grind (arith, all_turned, length_numbered);
+        ordered = grind (arith, ordered_later);
+        lots_ordered = grind (arith, order_turned, below_any, order_until);
         started = omega arith;
         lots_are = λ k r. turned_own t.session changed k 1 t.parties t.lots r.0 (omega arith) (h.lots_are k r);
-        due_short = λ k. omega (arith, due_all 0 t.session k t.notices h.ordered, h.under_short k);
+        due_short = λ k. grind (arith, due_all);
         under_short = λ k. omega (
           arith,
           h.under_short k,
@@ -201,21 +183,7 @@ module _ (c : Terms) (windows : c.delivers ≡ false → c.closes ≡ 0) (t : Ta
 
   pub sound_expiry : (final room : ℕ) → verdict c v (expiring (Some final) room) ≡ None → Sound c (entered t (expiring (Some final) room))
   unfolding entered questions fed_expiry due
-  sound_expiry final room e =
-      let a = met _ _ e in
-      let none : t.notices ≡ [] = h.mini (not-true c.delivers (and_parts _ _ a.0).0) in
-      record {
-        balanced = balanced_expiry t final h.balanced;
-        sellers = h.sellers;
-        holders = tt;
-        ordered = h.ordered;
-        lots_ordered = tt;
-        started = h.started;
-        lots_are = λ k r. none_in_lots k ∙ ap up (closed_carried c t final k someone r.0 (omega arith));
-        due_short = λ k. omega (arith, ap (due t.session k) none);
-        under_short = λ k. omega (arith, ap (under_notice k) none, none_under_notice k);
-        mini = h.mini;
-      }
+  sound_expiry final room e = grind (arith, met, not-true, and_parts, balanced_expiry, none_in_lots, closed_carried, someone, due, none_under_notice)
 
   -- the oldest notice, which is due, and the oldest lot
   module _ (x : Notice) (l : Lot) (xs : List Notice) (ls : List Lot) (nx : t.notices ≡ x ∷ xs) (lx : t.lots ≡ l ∷ ls) (is_due : x.session < t.session) where
@@ -238,19 +206,19 @@ module _ (c : Terms) (windows : c.delivers ≡ false → c.closes ≡ 0) (t : Ta
 
     pub first_due : (k : ℕ) → due t.session k (less_oldest_notices m t.notices) + i k ≡ due t.session k t.notices
     unfolding i
-    first_due k = let le = some in rw nx (due_first k t.session m x xs le.0 (omega arith) is_due)
+    first_due k = grind (arith, some, due_first)
 
     pub first_notice : (k : ℕ) → under_notice k (less_oldest_notices m t.notices) + i k ≡ under_notice k t.notices
     unfolding i
-    first_notice k = let le = some in rw nx (notices_first k m x xs le.0 (omega arith))
+    first_notice k = grind (arith, some, notices_first)
 
     pub first_lot : (k : ℕ) → in_lots k (less_oldest_lots m t.lots) + j k ≡ in_lots k t.lots
     unfolding j
-    first_lot k = let le = some in rw lx (lots_first k m l ls le.1 (omega arith))
+    first_lot k = grind (arith, some, lots_first)
 
     pub carries : (k : ℕ) → up (carried next k) + (length (prices k t.sold) + j k) ≡ down (carried next k) + (length (prices k t.bought) + i k)
     unfolding next fed_designation i j
-    carries k = omega (arith, net_is (prices k next.bought) (prices k next.sold), count_push k t.bought (record { holder = x.seller; price = t.price; contracts = m }), count_push k t.sold (record { holder = l.owner; price = t.price; contracts = m }))
+    carries k = grind (arith, net_is, count_push)
 
     pub nets : (k : ℕ) → up (today next k) + (length (prices k t.sold) + j k + length (prices k (sells t.waiting))) ≡ down (today next k) + (length (prices k t.bought) + i k + length (prices k (buys t.waiting)))
     unfolding next fed_designation i j
@@ -267,15 +235,15 @@ module _ (c : Terms) (windows : c.delivers ≡ false → c.closes ≡ 0) (t : Ta
     unfolding next fed_designation
     sound_designation = record {
       balanced = balanced_designation t x l owners.0 owners.1 h.balanced;
-      sellers = all_less_notices (λ n. Registered (length t.parties) n.seller) (λ n i _ _ r. r) m t.notices h.sellers;
-      holders = all_less_oldest (λ n. Registered (length t.parties) n.owner) (λ n i _ _ r. r) m t.lots h.holders;
-      ordered = rw nx (ordered_less 0 t.session m x xs (omega arith) (rw nx at h.ordered));
+      sellers = grind (arith, all_less_notices);
+      holders = grind (arith, all_less_oldest);
+      ordered = grind (arith, ordered_less);
       lots_ordered = order_less_oldest t.session m t.lots h.lots_ordered;
       started = h.started;
-      lots_are = λ k r. omega (arith, h.lots_are k r, first_lot k, carries k, net_is (prices k t.bought) (prices k t.sold), one_is_0 (carried t k), one_is_0 (carried next k), (sides k).0, (sides k).1 r);
+      lots_are = λ k r. grind (arith, first_lot, carries, net_is, one_is_0, sides);
       due_short = λ k. omega (arith, h.due_short k, first_due k, carries k, net_is (prices k t.bought) (prices k t.sold), one_is_0 (carried t k), one_is_0 (carried next k));
       under_short = λ k. omega (arith, h.under_short k, first_notice k, nets k, today_is t k, one_is_0 (today t k), one_is_0 (today next k));
-      mini = λ no. absurd (let z : ◌≡◌ {A = ℕ} 0 1 = cc (h.mini no) in omega arith);
+      mini = λ no. grind arith;
     }
 
 -- ---- a due notice finds a lot
@@ -291,7 +259,7 @@ module _ {X : Type 0} (g : ℕ → ℕ) where
   over_zero : (n : ℕ) (xs : List X) → ((k : ℕ) → n ≤ k → k < n + length xs → g k ≡ 0) → over g n xs ≡ 0
   unfolding over
   over_zero n [] z = refl
-  over_zero n (x ∷ xs) z = omega (arith, z n (omega arith) (omega arith), over_zero (n + 1) xs (λ k a b. z k (omega arith) (omega arith)))
+  over_zero n (x ∷ xs) z = grind (arith, over_zero (n + 1) xs (λ k a b. z k (omega arith) (omega arith)))
 
 pub finds_lot : (c : Terms) (t : Tally) → Sound c t → (x : Notice) (xs : List Notice) → t.notices ≡ x ∷ xs → x.session < t.session → t.lots ≡ [] → ⊥
 unfolding due

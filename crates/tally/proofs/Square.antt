@@ -1,4 +1,5 @@
 -- What the book shows after a call is what the fed tally shows.
+use Rattle.std.proofs.Common.{arith}
 use Rattle.std.proofs.Common.{◌≡◌, ℕ, ◌+◌, ◌<◌, ◌≤◌, cond, eqb, List, [], ◌∷◌, ◌++◌, length, replicate, ℤ, pos, ◌+ℤ◌, ◌-ℤ◌, sym, ap, ◌∙◌}
 use Rattle.std.proofs.lemmas.List.{length-replicate}
 use Rattle.tally.specs.declared.rows.Account.{Account}
@@ -25,10 +26,7 @@ module _ (c : Terms) (t : Tally) where
 
   -- ---- marking
   both : (price k : ℕ) → (net (prices k (t.bought ++ buys t.waiting)) (prices k (t.sold ++ sells t.waiting)) ≡ net (prices k t.bought ++ prices k (buys t.waiting)) (prices k t.sold ++ prices k (sells t.waiting))) × (position size price (prices k (t.bought ++ buys t.waiting)) (prices k (t.sold ++ sells t.waiting)) ≡ position size price (prices k t.bought ++ prices k (buys t.waiting)) (prices k t.sold ++ prices k (sells t.waiting)))
-  both price k =
-      let e = prices_append k t.bought (buys t.waiting) in
-      let d = prices_append k t.sold (sells t.waiting) in
-      (two net e d, two (position size price) e d)
+  both price k = grind (arith, prices_append, two)
 
   pub net_marked : (price k : ℕ) (p : Registration) → net_of (account size t k p) ≡ net (prices k (t.bought ++ buys t.waiting)) (prices k (t.sold ++ sells t.waiting))
   unfolding account

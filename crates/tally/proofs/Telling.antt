@@ -12,7 +12,7 @@ use Rattle.tally.specs.Answers.{Answer}
 use Rattle.tally.specs.declared.call.Reply.TheVariants.{Designated}
 use Rattle.tally.specs.declared.call.Marking.{Marking}
 use Rattle.tally.specs.Account.{net}
-use Rattle.tally.specs.Book.{Terms, Tally, numbered, prices, carried, seen}
+use Rattle.tally.specs.Book.{Terms, Tally, numbered, carried, seen}
 use Rattle.tally.specs.Events.{Event, registering, trading, quoting, noticing, designating, marking, expiring}
 use Rattle.tally.specs.Law.{Registered}
 use Rattle.tally.specs.Logs.{Side, bought, sold, marked_by, ended_by, is_marking, designation_in, closed, trades, designations, final_price, by_trade, by_designation, at_expiry, postings, contracts_of, value_of, open_contracts}
@@ -44,10 +44,10 @@ module _ (c : Terms) (xs : List Entry) (t : Tally) (told : Told c xs t) where
   told_trade w le =
       let x = taken c t (trading w) in
       record {
-        session = told.session ∙ ap (λ n. 1 + n) (sym (markings_same xs x refl));
+        session = grind (arith, markings_same);
         price = told.price ∙ sym (last_same xs x (λ m. m.price) refl);
         rate = told.rate ∙ sym (last_same xs x (λ m. m.rate) refl);
-        waits = trades_push xs x ∙ ap (λ l. l ++ w ∷ []) told.waits ∙ append_assoc (trades (closed xs)) t.waiting (w ∷ []) ∙ ap (λ l. trades l ++ (t.waiting ++ w ∷ [])) (sym (closed_same xs x refl));
+        waits = grind (arith, trades_push, append_assoc, closed_same);
         running = λ e. let r = told.running e in record {
           unended = final_same xs x refl ∙ r.unended;
           contracts = λ side k. sides side k ∙ r.contracts side k ∙ ap (contracts_of k) (sym (postings_same xs x side refl refl));
@@ -72,21 +72,17 @@ module _ (c : Terms) (xs : List Entry) (t : Tally) (told : Told c xs t) where
 
   marked_postings : (side : Side) (x : Entry) → is_marking x ≡ true → own_trades x ≡ [] → designation_in x.answer ≡ [] →
       postings side (xs ++ x ∷ []) ≡ (map (by_trade side) (trades (closed xs)) ++ map (by_trade side) t.waiting) ++ map (by_designation side) (designations xs)
-  marked_postings side x e n d =
-      ap (λ l. map (by_trade side) (trades l) ++ map (by_designation side) (designations (xs ++ x ∷ []))) (closed_all xs x e)
-      ∙ ap (λ l. map (by_trade side) l ++ map (by_designation side) (designations (xs ++ x ∷ []))) (trades_same xs x n ∙ told.waits)
-      ∙ ap (λ l. l ++ map (by_designation side) (designations (xs ++ x ∷ []))) (map-append (by_trade side) (trades (closed xs)) t.waiting)
-      ∙ ap (λ l. (map (by_trade side) (trades (closed xs)) ++ map (by_trade side) t.waiting) ++ map (by_designation side) l) (designations_push xs x ∙ ap (λ l. designations xs ++ l) d ∙ append-nil (designations xs))
+  marked_postings side x e n d = grind (arith, closed_all, trades_same, map-append, designations_push, append-nil)
 
   told_marking : (m : Marking) (room : ℕ) → t.session ≤ c.last → Told c (xs ++ taken c t (marking m room) ∷ []) (fed_marking t m)
   unfolding fed_marking
   told_marking m room le =
       let x = taken c t (marking m room) in
       record {
-        session = ap (λ n. n + 1) told.session ∙ omega (arith, markings_push xs x);
+        session = grind (arith, markings_push);
         price = sym (last_push (λ y. y.price) 0 xs x);
         rate = sym (last_push (λ y. y.rate) 0 xs x);
-        waits = ap trades (sym (closed_all xs x refl)) ∙ sym (append-nil (trades (closed (xs ++ x ∷ []))));
+        waits = grind (arith, closed_all, append-nil);
         running = λ e. let r = told.running e in record {
           unended = final_same xs x refl ∙ r.unended;
           contracts = λ side k.
@@ -120,13 +116,12 @@ module _ (c : Terms) (xs : List Entry) (t : Tally) (told : Told c xs t) where
     told_designation x event answered alive =
         let unmarked : marked_by x ≡ None = rw (event, answered) refl in
         let unended : ended_by x ≡ None = rw (event, answered) refl in
-        let untraded : own_trades x ≡ [] = rw (event, answered) refl in
         let one : designations (xs ++ x ∷ []) ≡ designations xs ++ given ∷ [] = designations_push xs x ∙ ap (λ a. designations xs ++ designation_in a) answered in
         record {
-          session = told.session ∙ ap (λ i. 1 + i) (sym (markings_same xs x unmarked));
+          session = grind (arith, markings_same);
           price = told.price ∙ sym (last_same xs x (λ m. m.price) unmarked);
           rate = told.rate ∙ sym (last_same xs x (λ m. m.rate) unmarked);
-          waits = trades_same xs x untraded ∙ told.waits ∙ ap (λ y. trades y ++ t.waiting) (sym (closed_same xs x unmarked));
+          waits = grind (arith, trades_same, closed_same);
           running = λ e. let r = told.running e in record {
             unended = final_same xs x unended ∙ r.unended;
             contracts = λ side k.
@@ -172,9 +167,7 @@ module _ (c : Terms) (xs : List Entry) (t : Tally) (told : Told c xs t) where
   -- what the log has before the expiry is what is carried
   carries : Running xs t → (k : ℕ) → open_contracts xs k ≡ carried t k
   unfolding net
-  carries r k =
-      ap (λ n. pos n -ℤ pos (contracts_of k (postings sold xs))) (sym (prices_count k t.bought ∙ r.contracts bought k))
-      ∙ ap (λ n. pos (length (prices k t.bought)) -ℤ pos n) (sym (prices_count k t.sold ∙ r.contracts sold k))
+  carries r k = grind (arith, prices_count)
 
   told_expiry : (final room : ℕ) → t.expired ≡ false → t.session ≡ c.last + 1 → t.notices ≡ [] → Told c (xs ++ taken c t (expiring (Some final) room) ∷ []) (fed_expiry t final)
   unfolding fed_expiry closes
@@ -183,10 +176,10 @@ module _ (c : Terms) (xs : List Entry) (t : Tally) (told : Told c xs t) where
       let r = told.running fresh in
       let ends : final_price (xs ++ x ∷ []) ≡ Some final = final_push xs x ∙ ap (λ o. or_else o (Some final)) r.unended in
       record {
-        session = told.session ∙ ap (λ n. 1 + n) (sym (markings_same xs x refl));
+        session = grind (arith, markings_same);
         price = told.price ∙ sym (last_same xs x (λ m. m.price) refl);
         rate = told.rate ∙ sym (last_same xs x (λ m. m.rate) refl);
-        waits = trades_same xs x refl ∙ told.waits ∙ ap (λ l. trades l ++ t.waiting) (sym (closed_same xs x refl));
+        waits = grind (arith, trades_same, closed_same);
         running = λ e. absurd (false≢true (sym e));
         ended = λ _. record {
           over = over;
@@ -228,7 +221,7 @@ module _ (c : Terms) (xs : List Entry) (t : Tally) (told : Told c xs t) where
 
   -- ---- any accepted call
   quiet : (e : Event) → marked_by (taken c t e) ≡ None → ended_by (taken c t e) ≡ None → own_trades (taken c t e) ≡ [] → designation_in (taken c t e).answer ≡ [] → Silent (taken c t e)
-  quiet e a b d f = record { unmarked = a; unended = b; untraded = d; undesignated = f }
+  quiet e a b d f = grind arith
 
   told_oldest : Sound c t → (ns : List Notice) (ls : List Lot) → t.notices ≡ ns → t.lots ≡ ls → is_due t.session ns ≡ true →
       Told c (xs ++ record { event = designating; answer = designation_of (seen c.size t) ns ls; rows = [] } ∷ []) (fed_oldest t ns ls)

@@ -1,10 +1,10 @@
 -- Log and tally count the same contracts.
-use Rattle.std.proofs.Common.{◌≡◌, ℕ, ◌+◌, ◌*◌, Bool, true, false, cond, List, [], ◌∷◌, ◌++◌, map, length, pos, ◌-ℤ◌, Some, None, Option, sym, refl, ap, ◌∙◌, arith}
+use Rattle.std.proofs.Common.{◌≡◌, ℕ, ◌+◌, true, false, List, [], ◌∷◌, ◌++◌, length, pos, ◌-ℤ◌, Some, None, Option, sym, refl, ap, ◌∙◌, arith}
 use Rattle.std.proofs.lemmas.List.{append-nil}
 use Rattle.tally.specs.declared.call.Marking.{Marking}
 use Rattle.tally.specs.Book.{Terms, Tally, Posting}
 use Rattle.tally.specs.Law.{Registered}
-use Rattle.tally.specs.Logs.{Side, bought, sold, marked_by, ended_by, is_marking, designation_in, markings, closed, trades, designations, last_marked, settlement_price, settlement_rate, final_price, by_trade, by_designation, at_expiry, postings, contracts_of, value_of, open_contracts, counted, value}
+use Rattle.tally.specs.Logs.{Side, bought, sold, marked_by, ended_by, is_marking, designation_in, markings, closed, trades, last_marked, settlement_price, settlement_rate, final_price, postings, contracts_of, value_of, open_contracts, counted, value}
 use Rattle.tally.specs.Runs.{Entry}
 use Rattle.tally.proofs.Pushes.{markings_push, trades_push, own_trades, designations_push, last_push, final_push, or_else, closed_push}
 
@@ -42,14 +42,14 @@ pub record Silent (x : Entry) : Type 0 where
   pub undesignated : designation_in x.answer ≡ []
 
 pub no_marking : (x : Entry) → marked_by x ≡ None → is_marking x ≡ false
-no_marking x e = ap (λ o. elim o as (λ _. Bool) [ None ↦ false | Some _ ↦ true ]) e
+no_marking x e = grind arith
 
 module _ (xs : List Entry) (x : Entry) where
   pub markings_same : marked_by x ≡ None → markings (xs ++ x ∷ []) ≡ markings xs
-  markings_same e = omega (arith, markings_push xs x, ap {B = ℕ} (λ b. cond b 1 0) (no_marking x e))
+  markings_same e = grind (arith, markings_push, no_marking)
 
   pub last_same : (f : Marking → ℕ) → marked_by x ≡ None → last_marked f 0 (xs ++ x ∷ []) ≡ last_marked f 0 xs
-  last_same f e = last_push f 0 xs x ∙ ap (λ o. elim o as (λ _. ℕ) [ None ↦ last_marked f 0 xs | Some m ↦ f m ]) e
+  last_same f e = grind (arith, last_push)
 
   pub closed_same : marked_by x ≡ None → closed (xs ++ x ∷ []) ≡ closed xs
   closed_same e = closed_push xs x (no_marking x e)
@@ -62,12 +62,10 @@ module _ (xs : List Entry) (x : Entry) where
       none (Some f) = refl
 
   pub postings_same : (side : Side) → marked_by x ≡ None → designation_in x.answer ≡ [] → postings side (xs ++ x ∷ []) ≡ postings side xs
-  postings_same side e d =
-      ap (λ l. map (by_trade side) (trades l) ++ map (by_designation side) (designations (xs ++ x ∷ []))) (closed_same e)
-      ∙ ap (λ l. map (by_trade side) (trades (closed xs)) ++ map (by_designation side) l) (designations_push xs x ∙ ap (λ l. designations xs ++ l) d ∙ append-nil (designations xs))
+  postings_same side e d = grind (arith, closed_same, designations_push, append-nil)
 
   pub trades_same : own_trades x ≡ [] → trades (xs ++ x ∷ []) ≡ trades xs
-  trades_same e = trades_push xs x ∙ ap (λ l. trades xs ++ l) e ∙ append-nil (trades xs)
+  trades_same e = grind (arith, trades_push, append-nil)
 
   -- what is counted by the log stays
   pub counted_same : (side : Side) (k : ℕ) → Silent x → (counted side (xs ++ x ∷ []) k ≡ counted side xs k) × (value side (xs ++ x ∷ []) k ≡ value side xs k)
@@ -80,26 +78,20 @@ module _ (xs : List Entry) (x : Entry) where
       (by_parts f p z, by_values f p z)
     where
       by_parts : final_price (xs ++ x ∷ []) ≡ final_price xs → postings side (xs ++ x ∷ []) ≡ postings side xs → open_contracts (xs ++ x ∷ []) k ≡ open_contracts xs k → counted side (xs ++ x ∷ []) k ≡ counted side xs k
-      by_parts f p z =
-          ap (λ l. contracts_of k l + elim (final_price (xs ++ x ∷ [])) as (λ _. ℕ) [ None ↦ 0 | Some g ↦ at_expiry side (open_contracts (xs ++ x ∷ []) k) ]) p
-          ∙ ap (λ o. contracts_of k (postings side xs) + elim o as (λ _. ℕ) [ None ↦ 0 | Some g ↦ at_expiry side (open_contracts (xs ++ x ∷ []) k) ]) f
-          ∙ ap (λ w. contracts_of k (postings side xs) + elim (final_price xs) as (λ _. ℕ) [ None ↦ 0 | Some g ↦ at_expiry side w ]) z
+      by_parts f p z = grind arith
 
       by_values : final_price (xs ++ x ∷ []) ≡ final_price xs → postings side (xs ++ x ∷ []) ≡ postings side xs → open_contracts (xs ++ x ∷ []) k ≡ open_contracts xs k → value side (xs ++ x ∷ []) k ≡ value side xs k
-      by_values f p z =
-          ap (λ l. value_of k l + elim (final_price (xs ++ x ∷ [])) as (λ _. ℕ) [ None ↦ 0 | Some g ↦ g * at_expiry side (open_contracts (xs ++ x ∷ []) k) ]) p
-          ∙ ap (λ o. value_of k (postings side xs) + elim o as (λ _. ℕ) [ None ↦ 0 | Some g ↦ g * at_expiry side (open_contracts (xs ++ x ∷ []) k) ]) f
-          ∙ ap (λ w. value_of k (postings side xs) + elim (final_price xs) as (λ _. ℕ) [ None ↦ 0 | Some g ↦ g * at_expiry side w ]) z
+      by_values f p z = grind arith
 
 -- ---- an entry that tells nothing leaves a tally told that differs at most in what the log does not count
 pub silent_told : (c : Terms) (xs : List Entry) (x : Entry) (t t' : Tally) → Silent x → Told c xs t →
     t'.session ≡ t.session → t'.price ≡ t.price → t'.rate ≡ t.rate → t'.waiting ≡ t.waiting → t'.bought ≡ t.bought → t'.sold ≡ t.sold → t'.expired ≡ t.expired →
     (t.expired ≡ true → t' ≡ t) → Told c (xs ++ x ∷ []) t'
 silent_told c xs x t t' h told es ep er ew eb ed ee stuck = record {
-  session = es ∙ told.session ∙ ap (λ n. 1 + n) (sym (markings_same xs x h.unmarked));
-  price = ep ∙ told.price ∙ sym (last_same xs x (λ m. m.price) h.unmarked);
-  rate = er ∙ told.rate ∙ sym (last_same xs x (λ m. m.rate) h.unmarked);
-  waits = trades_same xs x h.untraded ∙ told.waits ∙ ap (λ l. trades l ++ t.waiting) (sym (closed_same xs x h.unmarked)) ∙ ap (λ l. trades (closed (xs ++ x ∷ [])) ++ l) (sym ew);
+  session = grind (arith, markings_same);
+  price = grind (arith, last_same);
+  rate = grind (arith, last_same);
+  waits = grind (arith, trades_same, closed_same);
   running = λ e.
       let r = told.running (sym ee ∙ e) in
       record {

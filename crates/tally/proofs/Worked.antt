@@ -1,4 +1,5 @@
 -- The worked runs compute.
+use Rattle.std.proofs.Common.{arith}
 use Rattle.std.proofs.Common.{refl}
 use Rattle.money.specs.Nearest.{nearest}
 use Rattle.money.specs.Pays.{paid_of}
@@ -23,12 +24,4 @@ worked_offset = record { pages = refl }
 
 pub question_order : QuestionOrder
 unfolding questions
-question_order c v = record {
-  account = λ r. refl;
-  trade = λ t. refl;
-  quotation = λ q fault. refl;
-  notice = λ n. refl;
-  designation = refl;
-  settlement = λ m room. refl;
-  expiry = λ final room. refl;
-}
+question_order c v = grind arith

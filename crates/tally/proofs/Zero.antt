@@ -1,5 +1,5 @@
 -- The totals of a balanced tally sum to zero.
-use Rattle.std.proofs.Common.{◌≡◌, ℕ, ◌+◌, ◌*◌, ◌<◌, ◌≤◌, true, false, cond, eqb, List, [], ◌∷◌, ◌++◌, length, replicate, pos, sum_by, sum, sym, refl, ap, ◌∙◌, ⊎_elim, arith}
+use Rattle.std.proofs.Common.{◌≡◌, ℕ, ◌+◌, ◌*◌, ◌<◌, ◌≤◌, cond, eqb, List, [], ◌∷◌, length, pos, sum_by, sum, sym, refl, ap, ◌∙◌, ⊎_elim, arith}
 use borrow.Author.Differences.{up, down, sum_is_lem, same_in}
 use Rattle.std.specs.List.{AllByRecursion}
 use Rattle.std.proofs.lemmas.List.{length-append, length-replicate}
@@ -22,20 +22,12 @@ share f k (p ∷ ps) = cond (eqb p.holder k) (f p) 0 + share f k ps
 prices_count : (k : ℕ) (ps : List Posting) → length (prices k ps) ≡ share contracts k ps
 unfolding prices share
 prices_count k [] = refl
-prices_count k (p ∷ ps) =
-    elim (eqb p.holder k) as (λ b. length (cond b (replicate p.contracts p.price) [] ++ prices k ps) ≡ cond b p.contracts 0 + share contracts k ps) [
-      | true ↦ omega (arith, length-append (replicate p.contracts p.price) (prices k ps), length-replicate p.contracts p.price, prices_count k ps)
-      | false ↦ omega (arith, prices_count k ps)
-    ]
+prices_count k (p ∷ ps) = grind (arith, contracts, length-append, length-replicate, prices_count k ps)
 
 prices_value : (k : ℕ) (ps : List Posting) → sum (prices k ps) ≡ share worth_of k ps
 unfolding prices share
 prices_value k [] = refl
-prices_value k (p ∷ ps) =
-    elim (eqb p.holder k) as (λ b. sum (cond b (replicate p.contracts p.price) [] ++ prices k ps) ≡ cond b (p.price * p.contracts) 0 + share worth_of k ps) [
-      | true ↦ omega (arith, sum_by-append (λ x. x) (replicate p.contracts p.price) (prices k ps), sum_replicate p.contracts p.price, prices_value k ps)
-      | false ↦ omega (arith, prices_value k ps)
-    ]
+prices_value k (p ∷ ps) = grind (arith, contracts, worth_of, sum_by-append, sum_replicate, prices_value k ps)
 
 module _ {X : Type 0} where
   -- g of each number, summed
@@ -61,7 +53,7 @@ module _ {X : Type 0} where
   over_before : (h m n : ℕ) (xs : List X) → h < n → over (λ k. cond (eqb h k) m 0) n xs ≡ 0
   unfolding over
   over_before h m n [] lt = refl
-  over_before h m n (x ∷ xs) lt = rw (ne_eqb h n (omega arith)) (omega (arith, over_before h m (n + 1) xs (omega arith)))
+  over_before h m n (x ∷ xs) lt = grind (arith, ne_eqb, over_before h m (n + 1) xs (omega arith))
 
   over_one : (h m n : ℕ) (xs : List X) → n ≤ h → h < n + length xs → over (λ k. cond (eqb h k) m 0) n xs ≡ m
   unfolding over
@@ -91,10 +83,7 @@ module _ {X : Type 0} where
       ≡ down z + (size * over (λ k. sum (prices k ss)) n xs + size * price * over (λ k. length (prices k bs)) n xs)
   unfolding over sumℤ numbered
   summed size price bs ss n [] = omega arith
-  summed size price bs ss n (x ∷ xs) =
-      let z = sumℤ (numbered (λ k _. position size price (prices k bs) (prices k ss)) (n + 1) xs) in
-      let w = position size price (prices n bs) (prices n ss) in
-      omega (arith, sum_is_lem w z, position_is size price (prices n bs) (prices n ss), summed size price bs ss (n + 1) xs)
+  summed size price bs ss n (x ∷ xs) = grind (arith, sum_is_lem, position_is, summed size price bs ss (n + 1) xs)
 
 pub totals_zero : (size : ℕ) (t : Tally) → Balanced t → sumℤ (totals (seen size t)) ≡ pos 0
 unfolding account
