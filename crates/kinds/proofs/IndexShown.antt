@@ -1,5 +1,5 @@
 -- The last five show the quotations taken, so their kind obeys its rule.
-use Rattle.std.proofs.Common.{◌≡◌, ℕ, ◌-◌, ◌≤◌, Bool, true, false, cond, leb, List, [], ◌∷◌, ◌++◌, length, drop, pos, None, sum, sym, refl, ap, ◌∙◌, subst, arith, length-drop}
+use Rattle.std.proofs.Common.{◌≡◌, ℕ, ◌-◌, Bool, true, false, cond, leb, List, [], ◌∷◌, ◌++◌, length, drop, pos, None, sum, sym, refl, ap, ◌∙◌, subst, arith, length-drop}
 use Rattle.std.proofs.lemmas.List.{map_push, length-map, length_push, drop-append-le, drop-drop}
 use Rattle.std.proofs.lemmas.Bool.{cond-true, leb-true, leb-false}
 use Rattle.money.specs.Nearest.{Nearest, nearest_size}

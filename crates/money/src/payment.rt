@@ -65,7 +65,7 @@ fn weighed(cents: i64, each: u32) -> i64
 fn is_converted(amount: Amount, contract: Currency, payee: Residency) -> bool
     ensures { result ≡ is_converted amount.cents contract payee }
 {
-    contract != payee.paid_in() && amount.cents().unsigned_abs() != 0
+    contract != payee.paid_in() && amount.cents() != 0
 }
 
 // Pays a line of the contract's currency to its payee, at the rate of its page.

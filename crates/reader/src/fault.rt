@@ -3,6 +3,7 @@ ghost use Rattle.std.specs.Prelude.{◌≡◌};
 ghost use Rattle.reader.specs.Numbers.{fault_number, fault_place};
 
 // A fault with its place, a byte of the input counted from 0: of a misfit the first byte that does not fit, of any other the record's first.
+// Each variant keeps its place: a struct of kind and place takes a second enum and a longer line at each of the four faults made, for one arm less in `place`.
 #[derive(Clone, Copy, Debug, PartialEq, Eq)]
 pub enum ReadFault {
     UnknownMark(usize),

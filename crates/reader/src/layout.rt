@@ -80,6 +80,7 @@ impl Mark {
     pub(crate) const WIDTH: usize = 2;
 
     // The mark that a line begins with.
+    // No TryFrom: the line is more than its mark, and an error type would say no more than None.
     pub(crate) fn of(line: &[u8]) -> Option<Mark>
         ensures value { result ≡ marked line.now }
         ensures some { OnSome result (2 ≤ length line.now) }

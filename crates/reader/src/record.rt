@@ -58,6 +58,7 @@ pub enum Content<'a> {
 }
 
 // The ticker that an opening names.
+// No TryFrom: the type is another crate's, and an error type there would say no more than None.
 fn ticker(line: &[u8]) -> Option<Ticker>
     requires within { 5 ≤ length line.now }
     ensures value { result ≡ ticker_of (part 2 3 line.now) }
@@ -71,6 +72,7 @@ fn ticker(line: &[u8]) -> Option<Ticker>
 }
 
 // R stands for a resident, N for a nonresident.
+// No From: the type is another crate's, and only behind the layout's test is each other letter an N.
 fn residency(letter: u8) -> Residency
     ensures value { result ≡ residency_of letter }
 {

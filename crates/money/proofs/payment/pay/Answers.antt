@@ -14,14 +14,6 @@ returns-then-eq c =
     let h = unconverted _ _ _ _ some (same ∙ c.paid_in-currency.ensures) (omega (arith, ints)) (omega (arith, ints)) c.is_converted-converted.ensures in
     record { pays = h; value = payment_unique _ _ _ _ _ some h }
 
-pub weighed-owed-requires : goal.weighed-owed-requires
-weighed-owed-requires c = omega (arith, owed_fits (to_z w64 (of_z w64 c.cents-cents.result)) c.cent_weight.result (omega (arith, ints)) (omega arith))
-
-pub nearest-paid-requires : goal.nearest-paid-requires
-nearest-paid-requires c =
-    let fits = owed_fits (to_z w64 (of_z w64 c.cents-cents.result)) c.cent_weight.result (omega (arith, ints)) (omega arith) in
-    record { small = omega (arith, ints); some = omega arith }
-
 pub weighed-requires : goal.weighed-requires
 weighed-requires c =
     let fits = owed_fits (to_z w64 (of_z w64 c.cents-cents.result)) c.cent_weight.result (omega (arith, ints)) (omega arith) in
