@@ -9,6 +9,7 @@ use money::units::Price;
 use tally::refusal::Refusal;
 
 // Asks whether a quotation is within the ranges, and hands it to the kind.
+// `Book::quote` asks the same in the words of a whole book's log; one function for both would owe a third contract that holds both.
 pub fn quote<K: Contract>(kind: &mut K, quotation: Quotation) -> Result<(), Refusal>
     ensures answer { result ≡ quoting (course K.Contract.means) kind.old quotation }
     ensures after { kind.new ≡ quoted (course K.Contract.means) kind.old quotation }

@@ -1,4 +1,4 @@
-use Rattle.std.proofs.Common.{arith, rules}
+use Rattle.std.proofs.Common.{rules}
 use Rattle.desk.proofs.Gathers.{gathered_all, gathered_more, gathered_none}
 use Rattle.desk.proofs.gathering.gather.Goals as goal
 
@@ -8,7 +8,5 @@ loop-came-preserved-in-Some-call c = gathered_more c.in-Some.ensures c.loop-came
 pub loop-came-preserved : goal.loop-came-preserved
 loop-came-preserved c = gathered_none c.in-Some.ensures c.loop-came.invariant (search rules)
 
-pub returns : goal.returns
-returns c =
-    let inv = c.loop-came.invariant in
-    record { within = omega arith; calls = gathered_all c.in_default.ensures inv }
+pub returns-clause-calls : goal.returns-clause-calls
+returns-clause-calls c = gathered_all c.in_default.ensures c.loop-came.invariant
