@@ -3,6 +3,7 @@ use Rattle.std.proofs.Common.{arith}
 use Rattle.std.proofs.Common.{◌≡◌, ℕ, Some, None, refl}
 use Rattle.money.specs.Nearest.{nearest}
 use Rattle.money.specs.Pays.{paid_of}
+use Rattle.kinds.proofs.FiveWorked.{worked_line}
 use Rattle.tally.specs.declared.refusal.Refusal.TheVariants.{Unpriced}
 use Rattle.tally.specs.Book.{Terms, View}
 use Rattle.tally.specs.Questions.{first_unmet, questions, verdict}
@@ -19,4 +20,4 @@ refused c v rate room q = rw (q.open_session, q.none_due) refl
 
 pub worked_lines : WorkedLines
 unfolding nearest paid_of less_lots
-worked_lines = grind (arith, passes, refused)
+worked_lines = grind (arith, worked_line, passes, refused)
