@@ -2,12 +2,8 @@
 use Rattle.std.proofs.Common.{◌≡◌, ℕ, ◌+◌, ◌-◌, ◌<◌, ◌≤◌, min, Bool, true, false, cond, eqb, leb, ltb, ◌⊎◌, List, [], ◌∷◌, ◌++◌, length, get_or, take, drop, set, filter, sym, refl, ap, ◌∙◌, inl, inr, append_assoc, arith}
 use Rattle.std.proofs.lemmas.Bool.{ne_eqb, eqb-true, le-leb, lt-leb, leb-true, leb-false, lt-ltb, ltb-true}
 use Rattle.std.proofs.lemmas.List.{take_more_set, drop_more, drop_all, drop-set-lt, take-append-drop}
-use Rattle.aged.specs.Line.{Counting, AllCount, held, take_picked, spent}
+use Rattle.aged.specs.Line.{Counting, AllCount, counts, held, take_picked, spent}
 use Rattle.aged.proofs.Rows.{kept_yes, kept_no}
-
--- Whether a row counts something, as a `retain` asks it.
-abbrev pub counts : {R : Type 0} → Counting R → R → Bool
-counts c x = ltb 0 (c.count x)
 
 pub all_count : {R : Type 0} (c : Counting R) (rows : List R) → AllCount c (filter (counts c) rows)
 all_count c [] = tt
@@ -70,7 +66,7 @@ module _ {R : Type 0} (c : Counting R) (p : R → Bool) where
       let past : drop i ys ≡ [] = drop_all i ys end in
       (omega (arith, h.wanted, ap (λ l. held c (filter p l)) past), sym (take-append-drop i ys) ∙ ap (λ t. take i ys ++ t) (past ∙ ap (spent c p left) (sym past)) ∙ h.rest)
 
-  none_taken : (n : ℕ) (rows : List R) → n ≡ 0 → take_picked c p n rows ≡ rows
+  pub none_taken : (n : ℕ) (rows : List R) → n ≡ 0 → take_picked c p n rows ≡ rows
   none_taken n [] e = refl
   none_taken n (x ∷ rows) e = rw e refl
 

@@ -1,5 +1,5 @@
 -- A line of rows, oldest first: what it holds, what is left of it when some is taken, and what goes.
-use Rattle.std.specs.Prelude.{◌≡◌, ℕ, ◌+◌, ◌-◌, ◌<◌, Bool, true, cond, List, [], ◌∷◌, ◌++◌, Some, None, filter, Option, ◌==◌, nat_le}
+use Rattle.std.specs.Prelude.{◌≡◌, ℕ, ◌+◌, ◌-◌, ◌<◌, Bool, true, cond, List, [], ◌∷◌, ◌++◌, Some, None, filter, Option, ◌==◌, nat_le, nat_lt}
 use Rattle.std.specs.Borrow.{Bor}
 use Rattle.std.specs.List.{AllByRecursion}
 
@@ -14,6 +14,10 @@ pub record Counting (R : Type 0) : Type 0 where
 -- Every row counts something.
 abbrev pub AllCount : {R : Type 0} → Counting R → List R → Type 0
 AllCount c rows = AllByRecursion (λ x. 0 < c.count x) rows
+
+-- Whether a row counts something.
+abbrev pub counts : {R : Type 0} → Counting R → R → Bool
+counts c x = nat_lt 0 (c.count x)
 
 -- The line with a row put at its end, as the newest.
 abbrev pub append : {R : Type 0} → R → List R → List R
