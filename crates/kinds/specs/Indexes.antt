@@ -1,6 +1,5 @@
 -- The contract that ends at the mean of its last five indexes, in the words of the trade: over the quotations taken.
-use Rattle.std.specs.Prelude.{◌≡◌, ℕ, ◌-◌, ◌≤◌, Bool, true, cond, ◌&&◌, List, map, length, drop, Ok, Err, sum, ◌==◌}
-use Rattle.std.specs.List.{list_all}
+use Rattle.std.specs.Prelude.{◌≡◌, ℕ, ◌-◌, ◌<◌, ◌≤◌, Bool, true, cond, ◌&&◌, List, map, length, drop, Ok, Err, sum, ◌==◌, slice_index}
 use Rattle.money.specs.Ranges.{is_price}
 use Rattle.kinds.specs.declared.quotation.KindFault.TheVariants.{Unfit}
 use Rattle.kinds.specs.declared.quotation.Quotation.{Quotation}
@@ -28,6 +27,6 @@ last_five ps = drop (length ps - 5) ps
 abbrev pub IndexPrice : Pricing
 IndexPrice done o = MeanFrom 5 done (sum (last_five (prices done))) 5 o
 
--- five prices at most
-abbrev pub FiveFit : List ℕ → Type 0
-FiveFit last = (length last ≤ 5) × (list_all is_price last ≡ true)
+-- five places with a price in each, and how many of them indexes have filled
+abbrev pub FiveFit : List ℕ → ℕ → Type 0
+FiveFit last held = (length last ≡ 5) × (held ≤ 5) × ((i : ℕ) → i < 5 → is_price (slice_index last i) ≡ true)

@@ -2,14 +2,15 @@
 ghost use Rattle.kinds.specs.Indexes.{FiveFit};
 
 use crate::terms::Terms;
-use arrayvec::ArrayVec;
 
 pub mod kind;
 
-// The indexes taken, the last five at most, the newest last.
-#[derive(Drop)]
+// The last five indexes taken, the newest last; until the fifth has come, the places before the first hold the least price.
+// An array with a count and no ArrayVec: a kind is copied, and an ArrayVec can't be.
+#[derive(Clone, Copy)]
 pub struct LastFive {
     terms: Terms,
-    last: ArrayVec<u64, 5>,
-    ghost ok: { FiveFit last.items },
+    last: [u64; 5],
+    held: u64,
+    ghost ok: { FiveFit last held },
 }

@@ -1,8 +1,7 @@
 // The mean of the last five indexes as a contract kind.
-ghost use Rattle.std.specs.Prelude.{◌≡◌, false};
+ghost use Rattle.std.specs.Prelude.{◌≡◌, false, sum};
 ghost use Rattle.kinds.specs.Quoted.{Starts};
 ghost use Rattle.kinds.specs.Indexes.{index_rule, IndexPrice, is_index};
-ghost use Rattle.kinds.specs.IndexFacts.{with_last};
 ghost use Rattle.kinds.specs.Indexing.{five};
 
 use crate::contract::Contract;
@@ -10,7 +9,6 @@ use crate::indexes::LastFive;
 use crate::means::mean_price;
 use crate::quotation::{KindFault, Quotation};
 use crate::terms::Terms;
-use arrayvec::ArrayVec;
 use money::units::Price;
 
 impl Quotation {
@@ -32,19 +30,17 @@ impl LastFive {
     {
         LastFive {
             terms,
-            last: ArrayVec::new(),
+            last: [Price::LEAST; 5],
+            held: 0,
         }
     }
-}
 
-// Puts a price behind the last five at most, and drops the oldest where they are five.
-fn slide(last: &mut ArrayVec<u64, 5>, price: u64)
-    ensures { last.new.items ≡ with_last last.old.items price }
-{
-    if last.is_full() {
-        last.remove(0);
+    // What the five places come to.
+    fn total(&self) -> u64
+        ensures { result ≡ sum self.now.last }
+    {
+        self.last.iter().sum()
     }
-    last.push(price);
 }
 
 impl Contract for LastFive {
@@ -59,17 +55,19 @@ impl Contract for LastFive {
     }
 
     fn final_price(&self) -> Option<Price> {
-        if !self.last.is_full() {
+        if self.held < Self::INDEXES {
             return None;
         }
-        mean_price(self.last.iter().sum(), Self::INDEXES)
+        mean_price(self.total(), Self::INDEXES)
     }
 
     fn quote(&mut self, quotation: Quotation) -> Result<(), KindFault> {
         if !quotation.is_index() {
             return Err(KindFault::Unfit);
         }
-        slide(&mut self.last, quotation.price);
+        let last = self.last;
+        self.last = [last[1], last[2], last[3], last[4], quotation.price];
+        self.held = Self::INDEXES.min(self.held + 1);
         Ok(())
     }
 }
