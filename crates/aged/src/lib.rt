@@ -12,7 +12,7 @@ use arrayvec::ArrayVec;
 use std::marker::Model;
 
 /// A row that counts something, so that a part of it can be taken.
-pub trait Row: Copy + Default {
+pub trait Row: Copy {
     ghost counting: { Counting Self };
 
     fn count(&self) -> u32
@@ -58,7 +58,7 @@ impl<R: Row, const N: usize> Model for Line<R, N> {
     ghost invariant = { λ line. AllCount R.Row.counting line.rows.items };
 }
 
-impl<R: Row, const N: usize> Line<R, N> {
+impl<R: Row + Default, const N: usize> Line<R, N> {
     /// A line with no row.
     pub fn new() -> Self
         ensures { result ≡ [] }
@@ -133,7 +133,7 @@ impl<R: Row, const N: usize> Line<R, N> {
     }
 }
 
-impl<R: Owned, const N: usize> Line<R, N> {
+impl<R: Owned + Default, const N: usize> Line<R, N> {
     /// The oldest row of an owner.
     pub fn oldest_of(&self, owner: usize) -> Option<R>
         ensures { result ≡ first (rows_of R.Owned.whose owner self.now) }
