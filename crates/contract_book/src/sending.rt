@@ -85,12 +85,12 @@ impl<K: Contract> Book<K> {
     {
         let count = calls.len().min(log.len());
         let mut rows = 0;
-        let calls = &calls[..count];
+        let served = &calls[..count];
         // By index and no zip: the loop's invariant has no name for a log that its `iter_mut` has borrowed.
-        for (i, &call) in calls.iter().enumerate() {
-            let served = self.serve(call, &mut pages[rows..]);
-            log[i] = served.answer;
-            rows += served.rows;
+        for (i, &call) in served.iter().enumerate() {
+            let came = self.serve(call, &mut pages[rows..]);
+            log[i] = came.answer;
+            rows += came.rows;
         }
         Sending { calls: count, rows }
     }

@@ -23,6 +23,7 @@ pub enum Line {
     Send(Request),
 }
 
+// Currency and residency are read by functions and no `FromStr`, which an enum of another crate cannot be given here.
 fn currency(words: &mut Words) -> Option<Currency> {
     match words.word()? {
         "real" => Some(Currency::Real),

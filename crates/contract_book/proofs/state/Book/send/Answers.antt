@@ -9,7 +9,7 @@ loop-i-init g c = going_none g.K.Contract.means _ _ _
 pub loop-i-preserved : goal.loop-i-preserved
 loop-i-preserved g c =
     let turn = c.loop-i in
-    let one = c.serve-served in
+    let one = c.serve-came in
     going_more g.K.Contract.means _ _ _ _ _ turn.log c.args.pages.now turn.pages _ turn.i turn.rows _ _ _ _ _
     turn.invariant (take_more _ turn.i _ (search rules)) (search rules) turn.auto.pages (take_rest turn.pages turn.rows) one.ensures.takes.answers one.ensures.takes.leads one.ensures.page one.ensures.rows
 
