@@ -7,6 +7,7 @@ use reader::reading::Reader;
 use reader::record::Record;
 
 // The next record or its fault, with its place, or nothing at the input's end. The caller says whether a book has been opened.
+// No `Iterator`: the reader is told that before each record, and two of the four loops go on with it where they stop.
 pub fn next_record<'a>(
     reader: &mut Reader<'a>,
     opened: bool,

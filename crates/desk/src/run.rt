@@ -73,6 +73,7 @@ impl Desk<'_, '_> {
     }
 
     // Settles a book on its contract, of the kind that the ticker has.
+    // A switch, since the kinds are types of their own and no closure takes a kind of any type.
     fn begin(&mut self, opening: Opening, out: &mut Writer) -> Result<(), Full>
         requires built { IsBuildable opening }
         ensures { Writes out.old (opened_text opening self.old.reader.number self.old.reader.at (lines_left self.old.reader)) out.new result }

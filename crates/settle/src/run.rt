@@ -69,6 +69,7 @@ fn serve<K: Contract + Drop>(kind: K, mut reader: Reader, out: &mut Writer) -> R
 }
 
 // Serves a book on a ticker's contract, of the kind that the ticker has.
+// A switch, since the kinds are types of their own and no closure takes a kind of any type.
 fn begin(ticker: Ticker, reader: Reader, out: &mut Writer) -> Result<(), Full>
     ensures { Writes out.old (opened_on ticker reader.entry.number reader.entry.at (lines_left reader.entry)) out.new result }
 {
