@@ -11,6 +11,7 @@ ghost use Rattle.desk.specs.Report.{log_by, log_text, opened_text, report, seque
 
 use crate::gathering::gather;
 use crate::openings::Opening;
+use crate::records::Records;
 use crate::telling::tell;
 use crate::waiting::wait;
 use contract_book::state::Book;
@@ -90,9 +91,9 @@ impl Desk<'_, '_> {
     fn write(&mut self, out: &mut Writer) -> Result<(), Full>
         ensures { Writes out.old (waiting_at sequel self.old.reader) out.new result }
     {
-        let mut reader = self.reader;
-        let opened = wait(&mut reader, out)?;
-        self.reader = reader;
+        let mut records = Records::<false>(self.reader);
+        let opened = wait(&mut records, out)?;
+        self.reader = records.0;
         match opened {
             Some(opening) => self.begin(opening, out),
             None => Ok(()),
