@@ -8,7 +8,7 @@ use Rattle.aged.specs.Line.{Counting, held, every, owned_by, rows_of, take_oldes
 use Rattle.aged.specs.Runs.{Operation, Standing, start, after, run, appended, OldestOnly}
 use Rattle.aged.specs.Runs.Operation.{appends, takes_oldest, takes_of, empties}
 use Rattle.aged.specs.Laws.{units, NothingLost, NothingLostByOwner, InOrder, InOrderByOwner, ClosedUp}
-use Rattle.aged.proofs.Taking.{kept_every}
+use Rattle.aged.proofs.Rows.{kept_every}
 use Rattle.aged.proofs.Parts.{held_append, takes, held_parts, left_counts}
 use Rattle.aged.proofs.Units.{length_units, picked_append, units_within, units_apart}
 

@@ -1,5 +1,5 @@
-pub mod Closing
-pub mod Taking
+pub mod Rows
+pub mod Spending
 pub mod Parts
 pub mod Units
 pub mod Histories

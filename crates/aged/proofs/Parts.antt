@@ -5,7 +5,7 @@ use Rattle.std.proofs.lemmas.Bool.{eqb-true, eqb-false, leb-true, leb-false}
 use Rattle.aged.specs.Line.{Counting, held, take_picked, taken_picked}
 use Rattle.aged.specs.Laws.{Takes, SplitByCount}
 use Rattle.aged.specs.Laws.Takes.{enough, ended, passed, whole, split}
-use Rattle.aged.proofs.Taking.{kept_yes, kept_no}
+use Rattle.aged.proofs.Rows.{kept_yes, kept_no}
 
 pub held_append : {R : Type 0} (c : Counting R) (xs ys : List R) → held c (xs ++ ys) ≡ held c xs + held c ys
 held_append c [] ys = omega arith

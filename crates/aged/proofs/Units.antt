@@ -5,7 +5,7 @@ use Rattle.std.proofs.lemmas.List.Elements.{filter-append}
 use Rattle.aged.specs.Line.{Counting, held}
 use Rattle.aged.specs.Laws.{Takes, units}
 use Rattle.aged.specs.Laws.Takes.{enough, ended, passed, whole, split}
-use Rattle.aged.proofs.Taking.{kept_yes, kept_no}
+use Rattle.aged.proofs.Rows.{kept_yes, kept_no}
 
 module _ {R : Type 0} (c : Counting R) where
   pub units_append : (xs ys : List R) → units c (xs ++ ys) ≡ units c xs ++ units c ys

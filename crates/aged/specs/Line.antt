@@ -1,5 +1,7 @@
 -- A line of rows, oldest first: what it holds, what is left of it when some is taken, and what goes.
-use Rattle.std.specs.Prelude.{◌≡◌, ℕ, ◌+◌, ◌-◌, Bool, true, cond, List, [], ◌∷◌, ◌++◌, take, Some, None, filter, Option, ◌==◌, nat_le}
+use Rattle.std.specs.Prelude.{◌≡◌, ℕ, ◌+◌, ◌-◌, ◌<◌, Bool, true, cond, List, [], ◌∷◌, ◌++◌, Some, None, filter, Option, ◌==◌, nat_le, nat_lt}
+use Rattle.std.specs.Borrow.{Bor}
+use Rattle.std.specs.List.{AllByRecursion}
 
 -- How a row counts: how much, and the row with another count, which differs from it in nothing else.
 pub record Counting (R : Type 0) : Type 0 where
@@ -9,9 +11,13 @@ pub record Counting (R : Type 0) : Type 0 where
   pub recount_recount : (x : R) (m n : ℕ) → recount (recount x m) n ≡ recount x n
   pub recount_count : (x : R) → recount x (count x) ≡ x
 
--- The line in a slice: its first `used` rows, or all where it has fewer.
-abbrev pub line : {R : Type 0} → ℕ → List R → List R
-line used rows = take used rows
+-- Every row counts something.
+abbrev pub AllCount : {R : Type 0} → Counting R → List R → Type 0
+AllCount c rows = AllByRecursion (λ x. 0 < c.count x) rows
+
+-- Whether a row counts something.
+abbrev pub counts : {R : Type 0} → Counting R → R → Bool
+counts c x = nat_lt 0 (c.count x)
 
 -- The line with a row put at its end, as the newest.
 abbrev pub append : {R : Type 0} → R → List R → List R
@@ -45,6 +51,15 @@ taken_picked c picks n (x ∷ rows) =
     (cond (picks x)
     (cond (nat_le (c.count x) n) (x ∷ taken_picked c picks (n - c.count x) rows) (c.recount x n ∷ []))
     (taken_picked c picks n rows))
+
+-- The rows where what is taken is counted off them, and none goes: a row that n covers is left counting nothing.
+abbrev pub spent : {R : Type 0} → Counting R → (R → Bool) → ℕ → List R → List R
+spent c picks n [] = []
+spent c picks n (x ∷ rows) = cond (picks x) (c.recount x (c.count x - n) ∷ spent c picks (n - c.count x) rows) (x ∷ spent c picks n rows)
+
+-- What a closure says of a row is what the test says of it.
+abbrev pub Tests : {R : Type 0} → (Bor R → Bool → Type 0) → (R → Bool) → Type 0
+Tests says test = (x : _) (b : Bool) → says x b → b ≡ test x.now
 
 -- The test that picks every row.
 abbrev pub every : {R : Type 0} → R → Bool

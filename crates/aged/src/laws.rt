@@ -1,55 +1,36 @@
-// What holds of every line, whatever happens to it: each law is the contract of a function that does nothing else.
-ghost use Rattle.std.specs.Prelude.{ℕ};
-ghost use Rattle.aged.specs.Line.{every, owned_by};
+// What holds of every line, whatever happens to it: each law is the contract of a function that does nothing.
+// All rows and one owner's rows have a law each: rows without owners obey the first, and an owner's rows keep their order also where it is another's that are taken.
+ghost use Rattle.std.specs.Prelude.{Bool};
 ghost use Rattle.aged.specs.Laws.{NothingLost, NothingLostByOwner, InOrder, InOrderByOwner, ClosedUp, SplitByCount};
 
 use super::{Owned, Row};
 
 /// What went and what stands count together what was put in.
-pub fn nothing_lost<R: Row>() -> u8
+pub fn nothing_lost<R: Row>()
     ensures { NothingLost R.Row.counting }
-{
-    0
-}
+{}
 
 /// The same, owner by owner.
-pub fn nothing_lost_by_owner<R: Owned>() -> u8
+pub fn nothing_lost_by_owner<R: Owned>()
     ensures { NothingLostByOwner R.Row.counting R.Owned.whose }
-{
-    0
-}
+{}
 
 /// First in, first out, unit by unit.
-pub fn in_order<R: Row>() -> u8
+pub fn in_order<R: Row>()
     ensures { InOrder R.Row.counting }
-{
-    0
-}
+{}
 
 /// The same of each owner's units, whatever is taken.
-pub fn in_order_by_owner<R: Owned>() -> u8
+pub fn in_order_by_owner<R: Owned>()
     ensures { InOrderByOwner R.Row.counting R.Owned.whose }
-{
-    0
-}
+{}
 
 /// No row stands that counts nothing.
-pub fn closed_up<R: Row>() -> u8
+pub fn closed_up<R: Row>()
     ensures { ClosedUp R.Row.counting }
-{
-    0
-}
+{}
 
-/// A row that is split changes in nothing but its count.
-pub fn split_by_count<R: Row>() -> u8
-    ensures { SplitByCount R.Row.counting every }
-{
-    0
-}
-
-/// The same where one owner's rows are taken.
-pub fn split_by_count_of_owner<R: Owned>() -> u8
-    ensures { (o : ℕ) → SplitByCount R.Row.counting (owned_by R.Owned.whose o) }
-{
-    0
-}
+/// A row that is split changes in nothing but its count, whichever rows are taken: all, or one owner's.
+pub fn split_by_count<R: Row>()
+    ensures { (picks : R → Bool) → SplitByCount R.Row.counting picks }
+{}

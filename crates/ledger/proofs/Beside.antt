@@ -1,7 +1,7 @@
 -- Two lists read side by side, and rows written from the top of a slice.
 use Rattle.std.proofs.Common.{◌≡◌, ℕ, suc, ◌+◌, ◌-◌, ◌<◌, ◌≤◌, List, [], ◌∷◌, ◌++◌, length, get_or, take, drop, set, sym, refl, ap, ◌∙◌, arith}
 use lib.Lanes.{zip2}
-use Rattle.std.proofs.lemmas.List.{append_assoc, drop_more, set_at, take_all, take_more, take_more_set, length-take-le, get_or-append_right}
+use Rattle.std.proofs.lemmas.List.{append_assoc, drop_more, set_at, take_all, take_more, length-take-le, get_or-append_right}
 use Rattle.tally.specs.Book.{numbered}
 use Rattle.tally.proofs.Numbered.{numbered_push}
 use Rattle.ledger.specs.Told.{over}
@@ -65,14 +65,10 @@ unfolding numbered
 beside_numbered f g n [] = refl
 beside_numbered f g n (x ∷ xs) = ap (λ l. f x (g n x) ∷ l) (beside_numbered f g (n + 1) xs)
 
--- ---- what each row gives by its number, written from the top on
-module _ {X Y : Type 0} (f : ℕ → X → Y) where
-  pub number_more : (xs : List X) (ys : List Y) (i : ℕ) (d : X) {y : Y} → i < length xs → i < length ys → y ≡ f (i + 1) (get_or xs i d) →
-      take i ys ≡ numbered f 1 (take i xs) → take (i + 1) (set ys i y) ≡ numbered f 1 (take (i + 1) xs)
-  number_more xs ys i d {y} lt room ey h =
-      let n : 1 + length (take i xs) ≡ i + 1 = omega (arith, length-take-le i xs (omega arith)) in
-      take_more_set ys i y room ∙ ap (λ l. l ++ y ∷ []) h ∙ ap (λ z. numbered f 1 (take i xs) ++ z ∷ []) (ey ∙ ap (λ k. f k (get_or xs i d)) (sym n))
-      ∙ sym (numbered_push f 1 (take i xs) (get_or xs i d)) ∙ ap (numbered f 1) (sym (take_more xs i d lt))
-
-  pub number_all : (xs : List X) (ys : List Y) (i : ℕ) → i ≡ length xs → take i ys ≡ numbered f 1 (take i xs) → take (length xs) ys ≡ numbered f 1 xs
-  number_all xs ys i all h = ap (λ n. take n ys) (sym all) ∙ h ∙ ap (numbered f 1) (take_all i xs (omega arith))
+-- what each row gives by its number, one row more
+pub number_more : {X Y : Type 0} (f : ℕ → X → Y) (xs : List X) (i : ℕ) (d : X) {y : Y} {ys : List Y} → i < length xs → y ≡ f (i + 1) (get_or xs i d) →
+    ys ≡ numbered f 1 (take i xs) → ys ++ y ∷ [] ≡ numbered f 1 (take (i + 1) xs)
+number_more f xs i d {y} lt ey h =
+    let n : 1 + length (take i xs) ≡ i + 1 = omega (arith, length-take-le i xs (omega arith)) in
+    ap (λ l. l ++ y ∷ []) h ∙ ap (λ z. numbered f 1 (take i xs) ++ z ∷ []) (ey ∙ ap (λ k. f k (get_or xs i d)) (sym n))
+    ∙ sym (numbered_push f 1 (take i xs) (get_or xs i d)) ∙ ap (numbered f 1) (sym (take_more xs i d lt))

@@ -1,10 +1,19 @@
 -- A change of one or two accounts, row by row.
-use Rattle.std.proofs.Common.{◌≡◌, ℕ, zero, suc, ◌+◌, ◌-◌, ◌<◌, ◌≤◌, cond, eqb, List, [], ◌∷◌, length, get_or, take, set, sym, refl, ap, ◌∙◌, ⊎_elim, arith}
+use Rattle.std.proofs.Common.{◌≡◌, ℕ, suc, ◌+◌, ◌-◌, ◌<◌, ◌≤◌, cond, eqb, List, [], ◌∷◌, length, get_or, set, sym, refl, ap, ◌∙◌, ⊎_elim, arith}
 use Rattle.std.proofs.lemmas.List.{length-set}
 use Rattle.std.proofs.lemmas.Bool.{cases_eq, eq-eqb, ne_eqb}
+use Rattle.arrayvec.specs.ArrayVec.{ArrayVec, with_items}
+use Rattle.arrayvec.proofs.ArrayVecLemmas.{items-with_items}
 use Rattle.tally.specs.Book.{numbered}
 use Rattle.tally.specs.Law.{Registered}
+use Rattle.tally.proofs.Facts.{length_numbered}
 use Rattle.tally.proofs.Numbered.{numbered_twice}
+
+-- a table as its slice is handed back, where each row was changed by its number
+pub handed_back : {X : Type 0} (table : ArrayVec X) (f : ℕ → X → X) {slice rows : List X} → slice ≡ table.items → rows ≡ numbered f 1 slice → (with_items table rows).items ≡ numbered f 1 table.items
+handed_back table f {rows = rows} es er =
+    let e = er ∙ ap (numbered f 1) es in
+    items-with_items table rows (ap length e ∙ length_numbered f 1 table.items) ∙ e
 
 module _ {X : Type 0} where
   -- a change that leaves all from n on
@@ -39,12 +48,6 @@ module _ {X : Type 0} where
           let off : i - n ≡ suc (i - (n + 1)) = omega arith in
           ap (λ y. y ∷ numbered f (n + 1) xs) (h n x ne) ∙ ap (λ l. x ∷ l) more
           ∙ set_next x (f i (get_or xs (i - (n + 1)) d)) xs (i - (n + 1)) (i - n) off ∙ ap (λ y. set (x ∷ xs) (i - n) (f i y)) (getD_next x d xs (i - (n + 1)) (i - n) off)
-
-  pub take_numbered : {Y : Type 0} (f : ℕ → X → Y) (n m : ℕ) (xs : List X) → take m (numbered f n xs) ≡ numbered f n (take m xs)
-  unfolding numbered
-  take_numbered f n zero xs = refl
-  take_numbered f n (suc m) [] = refl
-  take_numbered f n (suc m) (x ∷ xs) = ap (λ l. f n x ∷ l) (take_numbered f (n + 1) m xs)
 
   -- a count that only account i is due is one row written
   pub numbered_due : (h : X → ℕ → X) → ((x : X) → h x 0 ≡ x) → (i m : ℕ) (xs : List X) (d : X) → Registered (length xs) i →

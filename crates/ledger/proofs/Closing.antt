@@ -1,10 +1,10 @@
 -- A page of a ledger as the rules have it, and what a marking and an expiry leave.
-use Rattle.std.proofs.Common.{◌≡◌, ℕ, ◌+◌, ◌-◌, ◌≤◌, true, not, eqb, leb, List, [], ◌∷◌, map, length, take, drop, ℤ, pos, ◌+ℤ◌, is_some, Some, None, Option, sym, refl, ap, ◌∙◌, arith}
-use native.Mathlib.Nat.{sub-zero}
+use Rattle.std.proofs.Common.{◌≡◌, ℕ, ◌+◌, ◌≤◌, true, not, eqb, leb, List, [], ◌∷◌, map, length, ℤ, pos, ◌+ℤ◌, is_some, Some, None, Option, sym, refl, ap, ◌∙◌, arith}
 use lib.Lanes.{zip2}
 use borrow.Author.Differences.{ints}
-use Rattle.std.proofs.lemmas.List.{take_at}
 use Rattle.std.proofs.lemmas.Bool.{and_from, and_parts, eqb-true, le-leb, leb-true}
+use Rattle.arrayvec.specs.ArrayVec.{with_items}
+use Rattle.arrayvec.proofs.ArrayVecLemmas.{items-with_items}
 use Rattle.money.specs.Ranges.{is_price, is_rate}
 use Rattle.money.specs.Units.{PriceCents}
 use Rattle.kinds.specs.Meaning.{cents_of}
@@ -27,9 +27,7 @@ use Rattle.ledger.specs.Ledgers.{view, terms_of}
 use Rattle.ledger.specs.Owings.{changed, lines_to, owed_at, row_to, settled_with}
 use Rattle.ledger.specs.Payouts.{owed_by}
 use Rattle.ledger.specs.Reached.{viewed}
-use Rattle.ledger.specs.Told.{over}
 use Rattle.ledger.proofs.Beside.{beside_numbered, length_beside}
-use Rattle.ledger.proofs.Enrolling.{registered_is}
 
 -- ---- the page
 -- what the rules owe an account
@@ -67,27 +65,24 @@ module _ (l : Ledger) (s : Settling) (price : ℕ) {os : List Owed} (eo : os ≡
   pub page_sums : (rate : ℕ) → sums (lines_to l.terms.currency rate (view l).accounts os) ≡ sums (lines (terms_of l) rate (owes_by l s price) (roll (view l)))
   page_sums rate = ap (λ o. sums (lines_to l.terms.currency rate (view l).accounts o)) eo ∙ ap sums (all_lines l s price rate)
 
-  pub owed_many : length os ≡ l.registered
-  owed_many = ap length eo ∙ length_numbered (owed_at s l.terms.size (view l).sheet l.price price) 1 (view l).accounts ∙ registered_is l
+  pub owed_many : length os ≡ length (view l).accounts
+  owed_many = ap length eo ∙ length_numbered (owed_at s l.terms.size (view l).sheet l.price price) 1 (view l).accounts
 
   -- the accounts' rows after the page
-  pub settled_rows : {after : List Account} → after ≡ over (zip2 (settled_with s) (take (length os) l.accounts) os) l.accounts →
-      take l.registered after ≡ numbered (λ k a. settled_with s a (owed_at s l.terms.size (view l).sheet l.price price k a)) 1 (view l).accounts
-  settled_rows {after} e =
-      let ws = zip2 (settled_with s) (view l).accounts os in
-      ap (take l.registered) (e ∙ ap (λ n. over (zip2 (settled_with s) (take n l.accounts) os) l.accounts) owed_many)
-      ∙ take_at ws (drop (length ws) l.accounts) l.registered (length_beside (settled_with s) (view l).accounts os (owed_many ∙ sym (registered_is l)) ∙ registered_is l)
-      ∙ ap (zip2 (settled_with s) (view l).accounts) eo
-      ∙ beside_numbered (settled_with s) (owed_at s l.terms.size (view l).sheet l.price price) 1 (view l).accounts
+  pub settled_rows : zip2 (settled_with s) (view l).accounts os ≡ numbered (λ k a. settled_with s a (owed_at s l.terms.size (view l).sheet l.price price k a)) 1 (view l).accounts
+  settled_rows = ap (zip2 (settled_with s) (view l).accounts) eo ∙ beside_numbered (settled_with s) (owed_at s l.terms.size (view l).sheet l.price price) 1 (view l).accounts
+
+-- the accounts once their slice, in which each was settled, is handed back
+pub settled_back : (l : Ledger) (s : Settling) {owed os : List Owed} {xs after : List Account} → after ≡ zip2 (settled_with s) xs os → xs ≡ (view l).accounts → os ≡ owed → length owed ≡ length (view l).accounts →
+    (with_items l.accounts after).items ≡ zip2 (settled_with s) (view l).accounts owed
+settled_back l s {owed} {after = after} ea ex eo many =
+    let e = ea ∙ (λ i. zip2 (settled_with s) (ex i) (eo i)) in
+    items-with_items l.accounts after (ap length e ∙ length_beside (settled_with s) (view l).accounts owed many) ∙ e
 
 -- what was read of the tables is what is owed
-pub owed_is : (l : Ledger) (s : Settling) (p : ℕ) (r : List Owed) {xs : List Account} {ts : List Trade} {last price : ℕ} → xs ≡ (view l).accounts → ts ≡ (view l).sheet → last ≡ l.price → price ≡ p →
-    take (length xs) r ≡ numbered (owed_at s l.terms.size ts last price) 1 xs → take l.registered r ≡ owed_by l s p
-owed_is l s p r ex et el ep h = ap (λ n. take n r) (sym (ap length ex ∙ registered_is l)) ∙ h ∙ (λ i. numbered (owed_at s l.terms.size (et i) (el i) (ep i)) 1 (ex i))
-
--- a slice from the start on, as the code cuts it
-pub front : {X : Type 0} (n : ℕ) (xs : List X) → take (n - 0) xs ≡ take n xs
-front n xs = ap (λ k. take k xs) (sub-zero n)
+pub owed_is : (l : Ledger) (s : Settling) (p : ℕ) {xs : List Account} {ts : List Trade} {last price : ℕ} → xs ≡ (view l).accounts → ts ≡ (view l).sheet → last ≡ l.price → price ≡ p →
+    numbered (owed_at s l.terms.size ts last price) 1 xs ≡ owed_by l s p
+owed_is l s p ex et el ep = λ i. numbered (owed_at s l.terms.size (et i) (el i) (ep i)) 1 (ex i)
 
 pub price_is : (n : ℕ) → (1 ≤ n) × (n ≤ 999999) → is_price n ≡ true
 price_is n h = and_from (leb 1 n) (leb n 999999) (le-leb 1 n h.0) (le-leb n 999999 h.1)
@@ -117,16 +112,13 @@ pub closed : (l : Ledger) (m : MarkingCall) {accounts : List Account} {lots : Li
 unfolding mark marked_account
 closed l m ea el ep er = λ i. viewed (ea i) [] (el i) (view l).notices (l.session + 1) (ep i) (er i) l.expired
 
-pub marked_view : (l : Ledger) (m : MarkingCall) (owed : List Owed) (lots : List Lot) (used : ℕ) {accounts : List Account} {p price rate : ℕ} → p ≡ m.price →
-    take l.registered owed ≡ owed_by l Marking p →
-    accounts ≡ over (zip2 (settled_with Marking) (take (length (take (l.registered - 0) owed)) l.accounts) (take (l.registered - 0) owed)) l.accounts →
-    take used lots ≡ turned l.session 1 (map changed (take (l.registered - 0) l.accounts)) (view l).lots → price ≡ p → rate ≡ m.rate →
-    viewed (take l.registered accounts) [] (take used lots) (view l).notices (l.session + 1) price rate l.expired ≡ mark (terms_of l) (view l) m
-marked_view l m owed lots used ep eo ea el e er =
-    closed l m
-    (settled_rows l Marking m.price (front l.registered owed ∙ eo ∙ ap (owed_by l Marking) ep) ea)
-    (el ∙ ap (λ xs. turned l.session 1 (map changed xs) (view l).lots) (front l.registered l.accounts))
-    (e ∙ ep) er
+pub marked_view : (l : Ledger) (m : MarkingCall) {owed os : List Owed} {slice seen accounts : List Account} {sheet : List Trade} {lots : List Lot} {p price rate : ℕ} → p ≡ m.price → owed ≡ owed_by l Marking p →
+    accounts ≡ zip2 (settled_with Marking) slice os → slice ≡ (view l).accounts → os ≡ owed → sheet ≡ [] → lots ≡ turned l.session 1 (map changed seen) (view l).lots → seen ≡ (view l).accounts → price ≡ p → rate ≡ m.rate →
+    viewed (with_items l.accounts accounts).items sheet lots (view l).notices (l.session + 1) price rate l.expired ≡ mark (terms_of l) (view l) m
+marked_view l m {lots = lots} {price = price} {rate = rate} ep eo ea es eos et el ev e er =
+    let rows = settled_back l Marking ea es eos (owed_many l Marking _ eo) ∙ settled_rows l Marking m.price (eo ∙ ap (owed_by l Marking) ep) in
+    (λ i. viewed (rows i) (et i) lots (view l).notices (l.session + 1) price rate l.expired)
+    ∙ closed l m refl (el ∙ ap (λ xs. turned l.session 1 (map changed xs) (view l).lots) ev) (e ∙ ep) er
 
 -- ---- an expiry
 pub record Expiring (l : Ledger) (rows : ℕ) : Type 0 where
@@ -158,14 +150,12 @@ unfolding expire
 ended l final ea el = λ i. viewed (ea i) (view l).sheet (el i) (view l).notices l.session l.price l.rate true
 
 -- the view that it leaves
-pub expired_view : (l : Ledger) (final : ℕ) (owed : List Owed) (lots : List Lot) {accounts : List Account} {used : ℕ} →
-    take l.registered owed ≡ owed_by l Expiry final →
-    accounts ≡ over (zip2 (settled_with Expiry) (take (length (take (l.registered - 0) owed)) l.accounts) (take (l.registered - 0) owed)) l.accounts → used ≡ 0 →
-    viewed (take l.registered accounts) (view l).sheet (take used lots) (view l).notices l.session l.price l.rate true ≡ expire (terms_of l) (view l) final
-expired_view l final owed lots eo ea eu =
+pub expired_view : (l : Ledger) (final : ℕ) {owed os : List Owed} {slice accounts : List Account} {lots : List Lot} → owed ≡ owed_by l Expiry final → accounts ≡ zip2 (settled_with Expiry) slice os → slice ≡ (view l).accounts → os ≡ owed → lots ≡ [] →
+    viewed (with_items l.accounts accounts).items (view l).sheet lots (view l).notices l.session l.price l.rate true ≡ expire (terms_of l) (view l) final
+expired_view l final eo ea es eos el =
     ended l final
-    (settled_rows l Expiry final (front l.registered owed ∙ eo) ea ∙ numbered_same _ (expired_account (terms_of l) (view l) final) 1 (view l).accounts (λ k a _ _. expired_row l final k a))
-    (ap (λ n. take n lots) eu)
+    (settled_back l Expiry ea es eos (owed_many l Expiry final eo) ∙ settled_rows l Expiry final eo ∙ numbered_same _ (expired_account (terms_of l) (view l) final) 1 (view l).accounts (λ k a _ _. expired_row l final k a))
+    el
 
 -- an accepted expiry has its final price
 pub final_there : (l : Ledger) (final : Option PriceCents) (rows : ℕ) → verdict (terms_of l) (view l) (expiring (cents_of final) rows) ≡ None → is_some final ≡ true

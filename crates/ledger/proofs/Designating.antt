@@ -1,10 +1,11 @@
 -- A designation that is due: there is a lot for it, and what its rows make of the view.
-use Rattle.std.proofs.Common.{◌≡◌, ℕ, ◌-◌, ◌≤◌, true, List, [], ◌∷◌, ◌++◌, length, get_or, take, set, ℤ, is_some, Some, None, Ok, Option, sym, refl, ap, ◌∙◌, subst, arith}
+use Rattle.std.proofs.Common.{◌≡◌, ℕ, ◌-◌, ◌≤◌, true, List, [], ◌∷◌, ◌++◌, length, get_or, set, ℤ, pos, ◌-ℤ◌, neg_ℤ, is_some, Some, None, Ok, Option, sym, refl, ap, ◌∙◌, subst, arith}
 use mathlib.Core.Logic.{∥∥₁_elim}
 use native.Mathlib.Bridge.{le_prop}
 use borrow.Author.Differences.{ints}
 use Rattle.std.specs.List.{AllByRecursion}
 use Rattle.std.proofs.lemmas.Bool.{false≢true, ltb-true}
+use Rattle.arrayvec.specs.ArrayVec.{with_items}
 use Rattle.aged.specs.Line.{first, take_oldest}
 use Rattle.tally.specs.declared.call.Reply.TheVariants.{Designated}
 use Rattle.tally.specs.declared.rows.Account.{Account}
@@ -21,10 +22,10 @@ use Rattle.tally.specs.Steps.{designate, designate_oldest, designated_account, l
 use Rattle.tally.proofs.Facts.{met}
 use Rattle.tally.proofs.Law.{settled}
 use Rattle.ledger.specs.declared.state.Ledger.{Ledger}
-use Rattle.ledger.specs.Designations.{less_long, less_short}
+use Rattle.ledger.specs.Designations.{carrying}
 use Rattle.ledger.specs.Ledgers.{view, terms_of}
 use Rattle.ledger.specs.Reached.{Reached, viewed}
-use Rattle.ledger.proofs.Changes.{numbered_both, take_numbered}
+use Rattle.ledger.proofs.Changes.{handed_back, numbered_both}
 use Rattle.ledger.proofs.Tables.{bounded, is_registered}
 
 -- ---- the first of a line
@@ -85,21 +86,30 @@ pair l n lot en el =
       few = ∥∥₁_elim l.reached le_prop (λ x. (noticed x).2);
     }
 
-abbrev carrying : Account → ℤ → Account
-carrying a z = record { identity = a.identity; residency = a.residency; carried = z; bought = a.bought; sold = a.sold; total = a.total }
+abbrev holding : Account → ℤ → Account
+holding a z = record { identity = a.identity; residency = a.residency; carried = z; bought = a.bought; sold = a.sold; total = a.total }
+
+abbrev less_short : Account → ℕ → Account
+less_short a n = carrying a (pos n)
+
+abbrev less_long : Account → ℕ → Account
+less_long a n = holding a (a.carried -ℤ pos n)
 
 -- the seller's row and the owner's, written one after the other, are the accounts after the designation
-pub delivered : (n : Notice) (lot : Lot) (xs : List Account) (m : ℕ) (a b : Account) → Registered (length xs) n.seller → Registered (length xs) lot.owner → m ≡ paired n lot →
-    a ≡ less_short (get_or xs (n.seller - 1) nobody) m → b ≡ less_long (get_or (set xs (n.seller - 1) a) (lot.owner - 1) nobody) m →
+pub delivered : (n : Notice) (lot : Lot) (xs : List Account) {m d : ℤ} {a b : Account} → Registered (length xs) n.seller → Registered (length xs) lot.owner →
+    a ≡ carrying (get_or xs (n.seller - 1) nobody) m → b ≡ carrying (get_or (set xs (n.seller - 1) a) (lot.owner - 1) nobody) d → m ≡ pos (paired n lot) → d ≡ neg_ℤ (pos (paired n lot)) →
     set (set xs (n.seller - 1) a) (lot.owner - 1) b ≡ numbered (designated_account n lot) 1 xs
 unfolding designated_account
-delivered n lot xs m a b rs ro em ea eb =
+delivered n lot xs {a = a} {b = b} rs ro ea eb em ed =
     let i = n.seller - 1 in
     let j = lot.owner - 1 in
-    ap (λ y. set (set xs i a) j y) eb
-    ∙ ap (λ y. set (set xs i y) j (less_long (get_or (set xs i y) j nobody) m)) ea
-    ∙ ap (λ k. set (set xs i (less_short (get_or xs i nobody) k)) j (less_long (get_or (set xs i (less_short (get_or xs i nobody) k)) j nobody) k)) em
-    ∙ sym (numbered_both less_short less_long (λ x. ap (carrying x) (omega (arith, ints))) (λ x. ap (carrying x) (omega (arith, ints))) n.seller lot.owner (paired n lot) xs nobody rs ro)
+    let k = paired n lot in
+    let seller = less_short (get_or xs i nobody) k in
+    let first : a ≡ seller = ea ∙ ap (carrying (get_or xs i nobody)) em in
+    let second : b ≡ less_long (get_or (set xs i seller) j nobody) k =
+    eb ∙ (λ t. carrying (get_or (set xs i (first t)) j nobody) (ed t)) ∙ ap (holding (get_or (set xs i seller) j nobody)) (omega (arith, ints)) in
+    (λ t. set (set xs i (first t)) j (second t))
+    ∙ sym (numbered_both less_short less_long (λ x. ap (holding x) (omega (arith, ints))) (λ x. ap (holding x) (omega (arith, ints))) n.seller lot.owner k xs nobody rs ro)
 
 -- ---- the view and the answer
 oldest_view : (v : View) (n : Notice) (lot : Lot) (ns : List Notice) (ls : List Lot) → first ns ≡ Some n → first ls ≡ Some lot → designate_oldest v ns ls ≡ designate v n lot
@@ -117,12 +127,10 @@ oldest_answer v n lot m (x ∷ ns) (y ∷ ls) en el em =
     ∙ ap (λ z. Ok (Designated (record { buyer = z.owner; seller = x.seller; contracts = paired x z; price = v.price }))) (sym (the_first el))
 
 -- the accounts after the designation and both lines with the contracts taken off are the view that the rules give
-pub paired_off : (l : Ledger) (n : Notice) (lot : Lot) (m : ℕ) (accounts : List Account) (lots : List Lot) (notices : List Notice) → first (view l).notices ≡ Some n → first (view l).lots ≡ Some lot → m ≡ paired n lot →
-    accounts ≡ numbered (designated_account n lot) 1 l.accounts → lots ≡ take_oldest lot_counting m (view l).lots → notices ≡ take_oldest notice_counting m (view l).notices →
-    viewed (take l.registered accounts) (view l).sheet lots notices l.session l.price l.rate l.expired ≡ designate_oldest (view l) (view l).notices (view l).lots
+pub paired_off : (l : Ledger) (n : Notice) (lot : Lot) (m : ℕ) {slice accounts : List Account} {lots : List Lot} {notices : List Notice} → first (view l).notices ≡ Some n → first (view l).lots ≡ Some lot → m ≡ paired n lot →
+    slice ≡ (view l).accounts → accounts ≡ numbered (designated_account n lot) 1 slice → lots ≡ take_oldest lot_counting m (view l).lots → notices ≡ take_oldest notice_counting m (view l).notices →
+    viewed (with_items l.accounts accounts).items (view l).sheet lots notices l.session l.price l.rate l.expired ≡ designate_oldest (view l) (view l).notices (view l).lots
 unfolding designate less_oldest_lots less_oldest_notices
-paired_off l n lot m accounts lots notices en el em ea eo ei =
-    ap (λ (xs : List Account). viewed xs (view l).sheet lots notices l.session l.price l.rate l.expired) (ap (take l.registered) ea ∙ take_numbered (designated_account n lot) 1 l.registered l.accounts)
-    ∙ ap (λ (xs : List Lot). viewed (numbered (designated_account n lot) 1 (view l).accounts) (view l).sheet xs notices l.session l.price l.rate l.expired) (eo ∙ ap (λ k. take_oldest lot_counting k (view l).lots) em)
-    ∙ ap (λ (xs : List Notice). viewed (numbered (designated_account n lot) 1 (view l).accounts) (view l).sheet (take_oldest lot_counting (paired n lot) (view l).lots) xs l.session l.price l.rate l.expired) (ei ∙ ap (λ k. take_oldest notice_counting k (view l).notices) em)
+paired_off l n lot m en el em es ea eo ei =
+    (λ i. viewed (handed_back l.accounts (designated_account n lot) es ea i) (view l).sheet ((eo ∙ ap (λ k. take_oldest lot_counting k (view l).lots) em) i) ((ei ∙ ap (λ k. take_oldest notice_counting k (view l).notices) em) i) l.session l.price l.rate l.expired)
     ∙ sym (oldest_view (view l) n lot (view l).notices (view l).lots en el)

@@ -1,24 +1,20 @@
 -- A notice that meets its questions: there is room for it, and its row makes the view that the rules give.
-use Rattle.std.proofs.Common.{◌≡◌, ℕ, ◌<◌, ◌≤◌, List, [], ◌∷◌, ◌++◌, length, take, None, Ok, Err, Result, ap, arith, MatchResult}
-use Rattle.std.proofs.lemmas.List.{length-take-le}
+use Rattle.std.proofs.Common.{◌≡◌, ℕ, ◌<◌, ◌≤◌, length, None, Ok, Err, Result, arith, MatchResult}
 use Rattle.std.proofs.lemmas.Bool.{ltb-true}
 use Rattle.aged.specs.declared.Refusal.{Refusal}
 use Rattle.aged.specs.declared.Refusal.TheVariants.{Empty, Full}
 use Rattle.aged.specs.Refusals.{Refused}
-use Rattle.tally.specs.declared.rows.Notice.{Notice}
 use Rattle.tally.specs.declared.call.Notification.{Notification}
 use Rattle.tally.specs.Events.{noticing}
 use Rattle.tally.specs.Questions.{questions, verdict}
-use Rattle.tally.specs.Steps.{notice, noticed_in}
 use Rattle.tally.proofs.Facts.{met, between_is}
 use Rattle.ledger.specs.declared.state.Ledger.{Ledger}
 use Rattle.ledger.specs.Ledgers.{view, terms_of}
-use Rattle.ledger.specs.Reached.{viewed}
 
 pub record Room (l : Ledger) (n : Notification) : Type 0 where
   pub some : 1 ≤ n.contracts
   pub few : n.contracts ≤ 3000
-  pub room : l.notices_used < 64
+  pub room : length (view l).notices < 64
 
 pub has_room : (l : Ledger) (n : Notification) → verdict (terms_of l) (view l) (noticing n) ≡ None → Room l n
 unfolding questions
@@ -33,7 +29,7 @@ has_room l n q =
     record {
       some = count.0;
       few = count.1;
-      room = omega (arith, ltb-true (length (view l).notices) 64 q17.0, length-take-le l.notices_used l.notices (omega (arith, l.tables.3.0, l.tables.3.1)));
+      room = ltb-true (length (view l).notices) 64 q17.0;
     }
 
 -- a row that counts something, with a place for it, is appended
@@ -41,7 +37,3 @@ pub appended : (r : Result (Unit {0}) Refusal) (count used places : ℕ) (A B C 
 appended (Ok _) count used places A B C h some room done = done
 appended (Err Empty) count used places A B C h some room done = absurd (omega arith)
 appended (Err Full) count used places A B C h some room done = absurd (omega (arith, h.1))
-
-pub entered : (l : Ledger) (n : Notification) (rows : List Notice) (used : ℕ) → take used rows ≡ take l.notices_used l.notices ++ noticed_in l.session n ∷ [] →
-    viewed (take l.registered l.accounts) (take l.written l.sheet) (take l.lots_used l.lots) (take used rows) l.session l.price l.rate l.expired ≡ notice (view l) n
-entered l n rows used e = ap (λ (xs : List Notice). viewed (take l.registered l.accounts) (take l.written l.sheet) (take l.lots_used l.lots) xs l.session l.price l.rate l.expired) e

@@ -1,5 +1,6 @@
 -- A run goes on: a view that some run leads to leads, by an accepted call, to the next.
-use Rattle.std.proofs.Common.{◌≡◌, ℕ, List, [], ◌∷◌, ◌++◌, Some, None, Ok, Err, fold, Option, Result, sym, refl, ap, ◌∙◌, arith}
+use Rattle.std.proofs.Common.{◌≡◌, ℕ, List, [], ◌∷◌, ◌++◌, Some, None, Ok, Err, fold, Option, Result, sym, refl, ap, ◌∙◌, subst, arith}
+use mathlib.Core.Logic.{∥∥₁_map}
 use Rattle.std.proofs.ByRecursion.{All-append}
 use Rattle.tally.specs.Answers.{Answer}
 use Rattle.tally.specs.declared.refusal.Refusal.{Refusal}
@@ -35,6 +36,10 @@ reach c v e priced q r = record {
   priced = All-append FinalPriced r.calls (e ∷ []) r.priced (priced, tt);
   shows = sym (shown_from c opened r.calls e ∙ ap (λ w. after c w e) (sym r.shows) ∙ accepted c v e q);
 }
+
+-- some run leads to what an accepted call leaves
+pub goes_on : (c : Terms) (v : View) (e : Event) {w : View} → FinalPriced e → verdict c v e ≡ None → w ≡ done c v e → ∥ Reached c v ∥₁ → ∥ Reached c w ∥₁
+goes_on c v e priced q is r = ∥∥₁_map r (λ x. subst (Reached c) (sym is) (reach c v e priced q x))
 
 -- a verdict that is passed on as accepting is none
 pub passed : (o : Option Refusal) → ◌≡◌ {A = Result (Unit {0}) Refusal} (Ok tt) (judged o) → o ≡ None

@@ -1,6 +1,6 @@
 -- One side of the sheet, row by row.
-use Rattle.std.proofs.Common.{◌≡◌, ℕ, zero, suc, ◌+◌, ◌-◌, ◌*◌, ◌<◌, ◌≤◌, min, cond, eqb, List, [], ◌∷◌, ◌++◌, length, get_or, take, drop, replicate, sum, refl, ap, ◌∙◌, arith}
-use Rattle.std.proofs.lemmas.List.{map-append, take_more, take_all, length-append, length-replicate, length-drop}
+use Rattle.std.proofs.Common.{◌≡◌, ℕ, zero, suc, ◌+◌, ◌-◌, ◌*◌, ◌<◌, ◌≤◌, min, cond, eqb, List, [], ◌∷◌, ◌++◌, length, get_or, take, drop, replicate, sum, sym, refl, ap, ◌∙◌, arith}
+use Rattle.std.proofs.lemmas.List.{map-append, take-append-drop, take_more, take_all, length-append, length-replicate, length-drop}
 use Rattle.std.proofs.lemmas.List.Sums.{sum_by-append, sum_by-take-drop}
 use Rattle.tally.specs.declared.rows.Trade.{Trade}
 use Rattle.tally.specs.Book.{Posting, prices, buy, sell}
@@ -17,9 +17,13 @@ abbrev pub posting : Side → Trade → Posting
 posting Bought t = buy t
 posting Sold t = sell t
 
-side_append : (side : Side) (ts : List Trade) (t : Trade) → on_side side (ts ++ t ∷ []) ≡ on_side side ts ++ posting side t ∷ []
-side_append Bought ts t = map-append buy ts (t ∷ [])
-side_append Sold ts t = map-append sell ts (t ∷ [])
+sides_append : (side : Side) (ts us : List Trade) → on_side side (ts ++ us) ≡ on_side side ts ++ on_side side us
+sides_append Bought ts us = map-append buy ts us
+sides_append Sold ts us = map-append sell ts us
+
+one : (side : Side) (t : Trade) → on_side side (t ∷ []) ≡ posting side t ∷ []
+one Bought t = refl
+one Sold t = refl
 
 own : (k : ℕ) (side : Side) (t : Trade) → cond (eqb (posting side t).holder k) (posting side t).contracts 0 ≡ contracts_on k side t
 own k Bought t = refl
@@ -71,7 +75,7 @@ pub read_row : (k : ℕ) (side : Side) (ts : List Trade) (i : ℕ) (d : Trade) (
 read_row k side ts i d o a v l w lt h =
     let t = get_or ts i d in
     let grows : prices k (on_side side (take (i + 1) ts)) ≡ prices k (on_side side (take i ts)) ++ replicate (contracts_on k side t) t.price =
-    ap (λ l. prices k (on_side side l)) (take_more ts i d lt) ∙ ap (prices k) (side_append side (take i ts) t)
+    ap (λ l. prices k (on_side side l)) (take_more ts i d lt) ∙ ap (prices k) (sides_append side (take i ts) (t ∷ [])) ∙ ap (λ ps. prices k (on_side side (take i ts) ++ ps)) (one side t)
     ∙ prices_append k (on_side side (take i ts)) (posting side t ∷ [])
     ∙ ap (λ l. prices k (on_side side (take i ts)) ++ l) (prices_one k (posting side t) ∙ ap (λ n. replicate n (posting side t).price) (own k side t) ∙ ap (λ p. replicate (contracts_on k side t) p) (priced side t)) in
     rw grows (read_more (prices k (on_side side (take i ts))) o a v l w (contracts_on k side t) t.price h)
@@ -100,3 +104,18 @@ pub read_start : (k : ℕ) (side : Side) (o : ℕ) → Read (prices k (on_side s
 unfolding prices
 read_start k Bought o = read_none o
 read_start k Sold o = read_none o
+
+-- what a side has in the first rows is not more than it has in all
+prefix_within : (k : ℕ) (side : Side) (ts : List Trade) (j : ℕ) → length (prices k (on_side side (take j ts))) ≤ length (prices k (on_side side ts))
+prefix_within k side ts j =
+    let parts : prices k (on_side side ts) ≡ prices k (on_side side (take j ts)) ++ prices k (on_side side (drop j ts)) =
+    ap (λ l. prices k (on_side side l)) (sym (take-append-drop j ts)) ∙ ap (prices k) (sides_append side (take j ts) (drop j ts)) ∙ prices_append k (on_side side (take j ts)) (on_side side (drop j ts)) in
+    omega (arith, ap length parts, length-append (prices k (on_side side (take j ts))) (prices k (on_side side (drop j ts))))
+
+-- so neither part grows past what the side has in all
+pub row_within : (k : ℕ) (side : Side) (ts : List Trade) (i : ℕ) (d : Trade) (o a v l w : ℕ) {n m : ℕ} → i < length ts → n ≡ contracts_on k side (get_or ts i d) → m ≡ min n (o - a) →
+    Read (prices k (on_side side (take i ts))) o a v l w → (a + m ≤ length (prices k (on_side side ts))) × (l + (n - m) ≤ length (prices k (on_side side ts)))
+row_within k side ts i d o a v l w {n} {m} lt en em h =
+    let row = read_next k side ts i d o a v l w lt en em refl refl h in
+    let all = prefix_within k side ts (i + 1) in
+    (omega (arith, row.offset_is, all), omega (arith, row.left_is, all, length-drop o (prices k (on_side side (take (i + 1) ts)))))

@@ -1,5 +1,5 @@
 -- What every run keeps of the numbers of a ledger, account by account and row by row.
-use Rattle.std.proofs.Common.{◌≡◌, ℕ, ◌+◌, ◌-◌, ◌*◌, ◌<◌, ◌≤◌, true, cond, length, get_or, pos, nat_abs, count_by, sym, ap, ◌∙◌, subst, arith}
+use Rattle.std.proofs.Common.{◌≡◌, ℕ, ◌+◌, ◌-◌, ◌*◌, ◌<◌, ◌≤◌, true, cond, length, get_or, nat_abs, count_by, sym, ap, ◌∙◌, subst, arith}
 use mathlib.Core.Logic.{∥∥₁_elim}
 use native.Mathlib.Bridge.{le_prop}
 use borrow.Author.Differences.{ints}
@@ -9,7 +9,6 @@ use Rattle.std.proofs.ByRecursion.{All-get_or, All-from_get_or}
 use Rattle.std.proofs.lemmas.Bool.{and_parts, cond_both, leb-true}
 use Rattle.money.specs.Ranges.{is_price}
 use Rattle.tally.specs.declared.rows.Account.{Account}
-use Rattle.tally.specs.declared.rows.Trade.{Trade}
 use Rattle.tally.specs.Book.{Terms, View, Tally, account, buys, prices, seen, sells}
 use Rattle.tally.specs.Bounds.{Bounded, OwedBounded, TradeBounded}
 use Rattle.tally.specs.Law.{Buildable, Registered}
@@ -19,15 +18,14 @@ use Rattle.tally.specs.Runs.{tally}
 use Rattle.tally.proofs.Facts.{between_is, get_d_numbered, length_numbered}
 use Rattle.tally.proofs.Law.{shows_account}
 use Rattle.tally.proofs.Runs.{no_window, shown_is_seen}
-use Rattle.ledger.specs.declared.owed.Owed.{Owed}
+use Rattle.ledger.specs.Limits.{AccountIn, InLimits}
 use Rattle.ledger.specs.declared.owed.Settling.{Settling}
 use Rattle.ledger.specs.declared.owed.Settling.TheVariants.{Marking, Expiry}
 use Rattle.ledger.specs.declared.state.Ledger.{Ledger}
 use Rattle.ledger.specs.Ledgers.{view, terms_of}
-use Rattle.ledger.specs.Owings.{AccountIn, ContractsIn, Dealt, OwedIn, owed_at}
-use Rattle.ledger.specs.Payouts.{owed_by}
+use Rattle.ledger.specs.Owings.{Dealt, Owable, OwedIn, owed_at}
 use Rattle.ledger.specs.Reached.{Reached}
-use Rattle.ledger.specs.Sheets.{Traded}
+use Rattle.ledger.specs.Sheets.{no_trade}
 use Rattle.ledger.proofs.Tables.{bounded}
 
 -- ---- of a run
@@ -77,17 +75,17 @@ module _ (l : Ledger) where
   pub last_small : l.terms.last ≤ 260
   last_small = holds (λ r. (last_in (terms_of l) r.buildable).1)
 
+  pub few_accounts : length (view l).accounts ≤ 64
+  few_accounts = known (λ b. b.few_accounts)
+
+  pub few_trades : length (view l).sheet ≤ 1024
+  few_trades = known (λ b. b.few_trades)
+
   pub few_lots : length (view l).lots + count_by opens_lot (view l).accounts ≤ 1024
   few_lots = known (λ b. b.few_lots)
 
-  abbrev no_trade : Trade
-  no_trade = record { buyer = 0; seller = 0; price = 0; contracts = 0 }
-
-  pub sheet_traded : AllByRecursion Traded (view l).sheet
-  sheet_traded = All-from_get_or Traded (view l).sheet no_trade (λ i lt. (
-    known (λ b. (All-get_or (TradeBounded (length (view l).accounts)) (view l).sheet i no_trade lt b.trades_in).2),
-    known (λ b. (All-get_or (TradeBounded (length (view l).accounts)) (view l).sheet i no_trade lt b.trades_in).4),
-  ))
+  pub sheet_priced : (i : ℕ) → i < length (view l).sheet → (get_or (view l).sheet i no_trade).price ≤ 999999
+  sheet_priced i lt = known (λ b. (All-get_or (TradeBounded (length (view l).accounts)) (view l).sheet i no_trade lt b.trades_in).2)
 
   module _ (i : ℕ) (lt : i < length (view l).accounts) where
     here : Registered (length (view l).accounts) (i + 1)
@@ -140,14 +138,11 @@ module _ (l : Ledger) where
   pub accounts_in : AllByRecursion AccountIn (view l).accounts
   accounts_in = All-from_get_or AccountIn (view l).accounts nobody account_in
 
-  pub contracts_in : AllByRecursion ContractsIn (view l).accounts
-  contracts_in = All-from_get_or ContractsIn (view l).accounts nobody (λ i lt. (account_in i lt).0)
+  pub contracts_in : AllByRecursion InLimits (view l).accounts
+  contracts_in = All-from_get_or InLimits (view l).accounts nobody (λ i lt. (account_in i lt).0)
 
-  -- what a page owes fits its lines
-  pub owed_fits : (s : Settling) (price : ℕ) → is_price price ≡ true → AllByRecursion OwedIn (owed_by l s price)
-  owed_fits s price e =
-      let f = owed_at s l.terms.size (view l).sheet l.price price in
-      let none : Owed = record { day_trade = pos 0; margin = pos 0 } in
-      let many = length_numbered f 1 (view l).accounts in
-      All-from_get_or OwedIn (owed_by l s price) none
-      (λ i lt. let under : i < length (view l).accounts = omega arith in subst OwedIn (sym (get_d_numbered f 1 (view l).accounts i none nobody under)) (fits i under s price e))
+  -- what a page has to know of each account
+  pub owable : (s : Settling) (price : ℕ) → is_price price ≡ true → (i : ℕ) → i < length (view l).accounts → Owable s l.terms.size (view l).sheet l.price price (i + 1) (get_or (view l).accounts i nobody)
+  owable s price e i lt =
+      let number : 1 + i ≡ i + 1 = omega arith in
+      ((account_in i lt).0, dealt i lt, subst (λ k. OwedIn (owed_at s l.terms.size (view l).sheet l.price price k (get_or (view l).accounts i nobody))) number (fits i lt s price e))

@@ -1,25 +1,20 @@
 -- The tables of a ledger, as its view has them, and what every run keeps of them.
-use Rattle.std.proofs.Common.{◌≡◌, ℕ, ◌-◌, ◌≤◌, true, leb, length, get_or, nat_abs, sym, subst, arith}
+use Rattle.std.proofs.Common.{◌≡◌, ℕ, ◌≤◌, true, leb, length, nat_abs, sym, subst, arith}
 use mathlib.Core.Logic.{∥∥₁_elim}
 use native.Mathlib.Bridge.{le_prop}
 use borrow.Author.Differences.{ints}
-use Rattle.std.proofs.lemmas.List.{get_or-take}
 use Rattle.std.proofs.lemmas.Bool.{and_from, and_parts, le-leb, leb-true}
 use Rattle.tally.specs.Book.{Terms, View}
 use Rattle.tally.specs.Bounds.{Bounded}
 use Rattle.tally.specs.Law.{Registered}
-use Rattle.tally.specs.Questions.{find, nobody, registered}
+use Rattle.tally.specs.Questions.{find, registered}
 use Rattle.tally.proofs.Bounds.{bounds}
 use Rattle.ledger.specs.declared.state.Ledger.{Ledger}
 use Rattle.ledger.specs.Ledgers.{view, terms_of}
 use Rattle.ledger.specs.Reached.{Reached}
-use Rattle.ledger.proofs.Enrolling.{registered_is}
 
 pub registers : (l : Ledger) (k : ℕ) → registered (view l) k ≡ true → Registered (length (view l).accounts) k
 registers l k e = let p = and_parts (leb 1 k) (leb k (length (view l).accounts)) e in (leb-true 1 k p.0, leb-true k (length (view l).accounts) p.1)
-
-pub account_is : (l : Ledger) (k : ℕ) → registered (view l) k ≡ true → find (view l) k ≡ get_or l.accounts (k - 1) nobody
-account_is l k e = let r = registers l k e in get_or-take l.registered l.accounts (k - 1) nobody (omega (arith, r.0, r.1, registered_is l))
 
 -- what holds of every run holds of the ledger
 pub bounded : (c : Terms) (v : View) → Reached c v → Bounded c v

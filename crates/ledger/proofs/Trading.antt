@@ -1,24 +1,26 @@
 -- A trade: what its questions tell, and what its rows make of the view.
-use Rattle.std.proofs.Common.{◌≡◌, ℕ, ◌+◌, ◌-◌, ◌<◌, ◌≤◌, Bool, true, cond, not, ◌&&◌, eqb, leb, List, length, get_or, take, set, nat_abs, None, count_by, sym, ap, ◌∙◌, subst, ⊎_elim, add-zero, arith}
+use Rattle.std.proofs.Common.{◌≡◌, ℕ, ◌+◌, ◌-◌, ◌<◌, ◌≤◌, Bool, true, cond, not, ◌&&◌, eqb, leb, List, [], ◌∷◌, ◌++◌, length, get_or, take, set, nat_abs, None, count_by, sym, ap, ◌∙◌, subst, ⊎_elim, add-zero, arith}
 use mathlib.Core.Logic.{∥∥₁_elim}
 use native.Mathlib.Bridge.{le_prop}
 use borrow.Author.Differences.{ints}
-use Rattle.std.proofs.lemmas.List.{length-take-le, take_all, take_more_set}
+use Rattle.std.proofs.lemmas.List.{take_all}
 use Rattle.std.proofs.lemmas.List.Sums.{sum_by_more}
 use Rattle.std.proofs.lemmas.Bool.{and_parts, not-true, eqb-false, leb-true, ltb-true, cases_eq, eq-eqb, ne_eqb}
+use Rattle.arrayvec.specs.ArrayVec.{with_items}
 use Rattle.tally.specs.declared.rows.Account.{Account}
 use Rattle.tally.specs.declared.rows.Trade.{Trade}
 use Rattle.tally.specs.Book.{numbered}
 use Rattle.tally.specs.Events.{trading}
 use Rattle.tally.specs.Law.{Registered}
-use Rattle.tally.specs.Questions.{at_most_3000, find, net_of, nobody, opens_lot, questions, registered, traded_account, verdict}
+use Rattle.tally.specs.Questions.{at_most_3000, between, find, net_of, nobody, opens_lot, questions, registered, traded_account, verdict}
 use Rattle.tally.specs.Steps.{trade}
-use Rattle.tally.proofs.Facts.{get_d_numbered, length_numbered, met}
+use Rattle.tally.proofs.Facts.{between_is, get_d_numbered, length_numbered, met}
+use Rattle.ledger.specs.Limits.{InLimits}
 use Rattle.ledger.specs.declared.state.Ledger.{Ledger}
 use Rattle.ledger.specs.Ledgers.{view, terms_of}
 use Rattle.ledger.specs.Reached.{viewed}
-use Rattle.ledger.specs.Trades.{InLimits, are_parties, buyer_net, keeps_day_limits, keeps_limits, seller_net}
-use Rattle.ledger.proofs.Changes.{numbered_both, take_numbered}
+use Rattle.ledger.specs.Trades.{are_parties, buyer_net, keeps_day_limits, keeps_limits, seller_net}
+use Rattle.ledger.proofs.Changes.{handed_back, numbered_both}
 use Rattle.ledger.proofs.Tables.{bounded, contracts, is_registered, registers}
 
 -- the two sides of a trade
@@ -34,8 +36,17 @@ parties l t e =
     record { buyer = p.0; seller = q.0; apart = eqb-false t.buyer t.seller (not-true (eqb t.buyer t.seller) q.1) }
 
 -- the net of an account is within its limit
-pub net_within : (l : Ledger) (k : ℕ) → registered (view l) k ≡ true → nat_abs (net_of (find (view l) k)) ≤ 3000
+net_within : (l : Ledger) (k : ℕ) → registered (view l) k ≡ true → nat_abs (net_of (find (view l) k)) ≤ 3000
 net_within l k e = ∥∥₁_elim l.reached le_prop (λ x. let b = ((bounded (terms_of l) (view l) x).accounts_in k (registers l k e)).net_in in omega (arith, ints, b.0, b.1))
+
+-- what is known of the nets of the two sides, and of the contracts
+pub record Nets (l : Ledger) (t : Trade) : Type 0 where
+  pub buyer : nat_abs (net_of (find (view l) t.buyer)) ≤ 3000
+  pub seller : nat_abs (net_of (find (view l) t.seller)) ≤ 3000
+  pub few : t.contracts ≤ 3000
+
+pub nets : (l : Ledger) (t : Trade) → are_parties (view l) t ≡ true → between 1 3000 t.contracts ≡ true → Nets l t
+nets l t e k = let p = parties l t e in record { buyer = net_within l t.buyer p.buyer; seller = net_within l t.seller p.seller; few = (between_is 1 3000 t.contracts k).1 }
 
 -- the tick that a book is built on is not 0
 pub ticked : (l : Ledger) → 1 ≤ (terms_of l).tick
@@ -116,7 +127,7 @@ handed t xs rb rs = sym (
 -- ---- an accepted trade
 pub record Taken (l : Ledger) (t : Trade) : Type 0 where
   pub sides : Parties l t
-  pub room : l.written < 1024
+  pub room : length (view l).sheet < 1024
   pub bought : (find (view l) t.buyer).bought + t.contracts ≤ 3000
   pub sold : (find (view l) t.seller).sold + t.contracts ≤ 3000
 
@@ -132,15 +143,12 @@ taken l t q =
     let limits = day_limits l t q10.0 in
     record {
       sides = parties l t q6.0;
-      room = omega (arith, ltb-true (length (view l).sheet) 1024 q9.0, length-take-le l.written l.sheet (omega (arith, l.tables.1.0, l.tables.1.1)));
+      room = ltb-true (length (view l).sheet) 1024 q9.0;
       bought = limits.0;
       sold = limits.1;
     }
 
--- the accounts after the trade and the sheet with its row are the view that the rules give
-pub entered : (l : Ledger) (t : Trade) (accounts : List Account) → Taken l t → accounts ≡ numbered (traded_account t) 1 l.accounts →
-    viewed (take l.registered accounts) (take (l.written + 1) (set l.sheet l.written t)) (take l.lots_used l.lots) (take l.notices_used l.notices) l.session l.price l.rate l.expired
-    ≡ trade (view l) t
-entered l t accounts ok e =
-    ap (λ (xs : List Account). viewed xs (take (l.written + 1) (set l.sheet l.written t)) (take l.lots_used l.lots) (take l.notices_used l.notices) l.session l.price l.rate l.expired) (ap (take l.registered) e ∙ take_numbered (traded_account t) 1 l.registered l.accounts)
-    ∙ ap (λ (ts : List Trade). viewed (numbered (traded_account t) 1 (view l).accounts) ts (take l.lots_used l.lots) (take l.notices_used l.notices) l.session l.price l.rate l.expired) (take_more_set l.sheet l.written t (omega (arith, ok.room, l.tables.1.0)))
+-- the accounts as their slice is handed back, and the sheet with its row, are the view that the rules give
+pub entered : (l : Ledger) (t : Trade) {slice accounts : List Account} {sheet : List Trade} → slice ≡ (view l).accounts → accounts ≡ numbered (traded_account t) 1 slice → sheet ≡ (view l).sheet ++ t ∷ [] →
+    viewed (with_items l.accounts accounts).items sheet (view l).lots (view l).notices l.session l.price l.rate l.expired ≡ trade (view l) t
+entered l t es ea et = λ i. viewed (handed_back l.accounts (traded_account t) es ea i) (et i) (view l).lots (view l).notices l.session l.price l.rate l.expired

@@ -11,7 +11,8 @@ use Rattle.tally.specs.Account.{long}
 use Rattle.tally.specs.Questions.{net_of, opens_lot}
 use Rattle.tally.specs.Rows.{lot_counting}
 use Rattle.tally.specs.Steps.{aged, less_lots, turned}
-use Rattle.ledger.specs.Owings.{ContractsIn, changed}
+use Rattle.ledger.specs.Limits.{InLimits}
+use Rattle.ledger.specs.Owings.{changed}
 
 -- ---- one account
 module _ (before after : ℤ) {held left : ℕ} (eh : held ≡ long before) (el : left ≡ long after) where
@@ -33,7 +34,7 @@ module _ (before after : ℤ) {held left : ℕ} (eh : held ≡ long before) (el 
       ∙ sym (cond-false (ltb (long before) (long after)) _ _ (le-ltb (long before) (long after) (omega arith)))
 
 -- ---- one account after the other
-pub net_in : (a : Account) {z : ℤ} → z ≡ net_of a → ContractsIn a → nat_abs z ≤ 9000
+pub net_in : (a : Account) {z : ℤ} → z ≡ net_of a → InLimits a → nat_abs z ≤ 9000
 net_in a e h = omega (arith, ints, e, h.0, h.1, h.2)
 
 module _ (xs : List Account) (i : ℕ) (d : Account) (lt : i < length xs) where

@@ -1,5 +1,5 @@
 -- What a ledger shows.
-use Rattle.std.specs.Prelude.{Bool, ◌&&◌, take, nat_le}
+use Rattle.std.specs.Prelude.{Bool, ◌&&◌, nat_le}
 use Rattle.tally.specs.Book.{Terms, View}
 use Rattle.tally.specs.Questions.{between, is_buildable}
 use Rattle.ledger.specs.declared.state.BookTerms.{BookTerms}
@@ -13,9 +13,9 @@ terms_in t = built_on t.size t.currency t.tick t.delivers t.last t.opens t.close
 abbrev pub terms_of : Ledger → Terms
 terms_of l = terms_in l.terms
 
--- the used rows of its tables, and where it stands
+-- the rows of its tables, and where it stands
 abbrev pub view : Ledger → View
-view l = viewed (take l.registered l.accounts) (take l.written l.sheet) (take l.lots_used l.lots) (take l.notices_used l.notices) l.session l.price l.rate l.expired
+view l = viewed l.accounts.items l.sheet.items l.lots l.notices l.session l.price l.rate l.expired
 
 -- terms that a ledger is opened on: those that a book can be built on, of a size and a tick that a kind can have
 abbrev pub can_open : Terms → Bool

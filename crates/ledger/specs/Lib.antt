@@ -6,3 +6,4 @@ pub mod Trades
 pub mod Designations
 pub mod Owings
 pub mod Payouts
+pub mod Limits

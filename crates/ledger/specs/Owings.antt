@@ -12,10 +12,10 @@ use Rattle.tally.specs.declared.rows.Sums.{Sums}
 use Rattle.tally.specs.declared.rows.Trade.{Trade}
 use Rattle.tally.specs.Account.{day_trade, margin}
 use Rattle.tally.specs.Book.{prices, buys, sells}
-use Rattle.tally.specs.Pages.{Line, paid_as}
+use Rattle.tally.specs.Pages.{Line, Owed, paid_as}
 use Rattle.tally.specs.Questions.{net_of}
 use Rattle.tally.specs.Steps.{Change}
-use Rattle.ledger.specs.declared.owed.Owed.{Owed}
+use Rattle.ledger.specs.Limits.{InLimits}
 use Rattle.ledger.specs.declared.owed.Settling.{Settling}
 use Rattle.ledger.specs.declared.owed.Settling.TheVariants.{Marking, Expiry}
 
@@ -27,13 +27,13 @@ marking_owed size sheet last price k a = record {
 }
 
 -- what an expiry owes an account, whatever its number
-abbrev pub expiry_owed : ℕ → ℕ → ℕ → ℕ → Account → Owed
-expiry_owed size last final k a = record { day_trade = pos 0; margin = pos size *ℤ (a.carried *ℤ (pos final -ℤ pos last)) }
+abbrev pub expiry_owed : ℕ → ℕ → ℕ → Account → Owed
+expiry_owed size last final a = record { day_trade = pos 0; margin = pos size *ℤ (a.carried *ℤ (pos final -ℤ pos last)) }
 
 -- by what the page settles
 abbrev pub owed_at : Settling → ℕ → List Trade → ℕ → ℕ → ℕ → Account → Owed
 owed_at Marking size sheet last price k a = marking_owed size sheet last price k a
-owed_at Expiry size sheet last price k a = expiry_owed size last price k a
+owed_at Expiry size sheet last price k a = expiry_owed size last price a
 
 -- an account that has bought and sold what the sheet says
 abbrev pub Dealt : List Trade → ℕ → Account → Type 0
@@ -42,6 +42,10 @@ Dealt sheet k a = (a.bought ≡ length (prices k (buys sheet))) × (a.sold ≡ l
 -- both amounts fit a line of money
 abbrev pub OwedIn : Owed → Type 0
 OwedIn o = (unsigned_abs o.day_trade ≤ 600000000000) × (unsigned_abs o.margin ≤ 600000000000)
+
+-- what is known of account k before a page: its contracts are within the limits, it has dealt what the sheet says, and what it is owed fits
+abbrev pub Owable : Settling → ℕ → List Trade → ℕ → ℕ → ℕ → Account → Type 0
+Owable s size sheet last price k a = InLimits a × Dealt sheet k a × OwedIn (owed_at s size sheet last price k a)
 
 -- ---- what is paid
 abbrev pub line_to : Currency → ℕ → Residency → ℤ → Line
@@ -91,14 +95,6 @@ expired_with a o = record { identity = a.identity; residency = a.residency; carr
 abbrev pub settled_with : Settling → Account → Owed → Account
 settled_with Marking a o = marked_with a o
 settled_with Expiry a o = expired_with a o
-
--- contracts within the limits of an account
-abbrev pub ContractsIn : Account → Type 0
-ContractsIn a = (unsigned_abs a.carried ≤ 3000) × (a.bought ≤ 3000) × (a.sold ≤ 3000)
-
--- and a total that leaves room for more
-abbrev pub AccountIn : Account → Type 0
-AccountIn a = ContractsIn a × (unsigned_abs a.total ≤ 1000000000000000)
 
 -- how a marking changes the contracts of an account
 abbrev pub changed : Account → Change

@@ -1,6 +1,5 @@
 -- What a trade is asked, and the rows of its two accounts.
-use Rattle.std.specs.Prelude.{◌+◌, ◌≤◌, Bool, not, ◌&&◌, ℤ, pos, ◌+ℤ◌, ◌-ℤ◌, ◌==◌, nat_le, unsigned_abs}
-use Rattle.tally.specs.declared.rows.Account.{Account}
+use Rattle.std.specs.Prelude.{◌+◌, Bool, not, ◌&&◌, ℤ, pos, ◌+ℤ◌, ◌-ℤ◌, ◌==◌, nat_le}
 use Rattle.tally.specs.declared.rows.Trade.{Trade}
 use Rattle.tally.specs.Book.{View}
 use Rattle.tally.specs.Questions.{at_most_3000, find, net_of, registered}
@@ -22,7 +21,3 @@ keeps_day_limits v t = nat_le ((find v t.buyer).bought + t.contracts) 3000 && na
 
 abbrev pub keeps_limits : View → Trade → Bool
 keeps_limits v t = at_most_3000 (buyer_net v t) && (at_most_3000 (seller_net v t) && keeps_day_limits v t)
-
--- an account within the limits
-abbrev pub InLimits : Account → Type 0
-InLimits a = (unsigned_abs a.carried ≤ 3000) × (a.bought ≤ 3000) × (a.sold ≤ 3000)

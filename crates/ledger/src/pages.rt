@@ -1,10 +1,9 @@
 // Paying a page: two lines for each account, and what they come to.
 ghost use Rattle.std.specs.Prelude.{◌≡◌, ◌+◌, ◌≤◌, length, unsigned_abs};
 ghost use Rattle.std.specs.Simd.Lanes.{zip2};
-ghost use Rattle.std.specs.List.{AllByRecursion};
 ghost use Rattle.money.specs.Pays.{payment_of};
 ghost use Rattle.tally.specs.Pages.{paid_as, sums as sums_of};
-ghost use Rattle.ledger.specs.Owings.{OwedIn, PaidIn, SumsIn, lines_to, row_to, plus_line};
+ghost use Rattle.ledger.specs.Owings.{PaidIn, SumsIn, lines_to, row_to, plus_line};
 ghost use Rattle.ledger.specs.Told.{over};
 
 use crate::owed::Owed;
@@ -13,16 +12,6 @@ use money::currency::{Currency, Residency};
 use money::payment::{Payment, pay};
 use money::units::Rate;
 use tally::rows::{Account, PageRow, Sums};
-
-// Pays one line, of an amount that fits.
-fn pay_line(cents: i64, currency: Currency, payee: Residency, rate: Rate) -> Payment
-    requires { unsigned_abs cents ≤ 600000000000 }
-    ensures value { result ≡ payment_of cents currency payee rate.number }
-    ensures within { PaidIn result }
-{
-    let amount = Amount::new(cents).unwrap();
-    pay(amount, currency, payee, rate)
-}
 
 // What a line pays in one of the currencies.
 fn paid_as(currency: Currency, payee: Residency, paid: i64) -> i64
@@ -50,36 +39,45 @@ fn add_line(sums: Sums, payee: Residency, payment: Payment) -> Sums
     }
 }
 
-// Pays each account what it is owed into its row of the page, and says what the page comes to.
-pub(crate) fn pay_page(
-    accounts: &[Account],
-    owed: &[Owed],
-    currency: Currency,
-    rate: Rate,
-    page: &mut [PageRow],
-) -> Sums
-    requires few { length accounts.now ≤ 64 }
-    requires beside { length owed.now ≡ length accounts.now }
-    requires owed { AllByRecursion OwedIn owed.now }
-    requires page { length accounts.now ≤ length page.old }
-    ensures page { page.new ≡ over (zip2 (row_to currency rate.number) accounts.now owed.now) page.old }
-    ensures sums { result ≡ sums_of (lines_to currency rate.number accounts.now owed.now) }
-{
-    let mut sums = Sums {
-        reais: 0,
-        dollars: 0,
-        remainder: 0,
-        lines: 0,
-    };
-    for i in 0..accounts.len() {
-        let payee = accounts[i].residency;
-        let day_trade = pay_line(owed[i].day_trade, currency, payee, rate);
-        let margin = pay_line(owed[i].margin, currency, payee, rate);
-        page[i] = PageRow {
-            day_trade: day_trade.paid,
-            margin: margin.paid,
-        };
-        sums = add_line(add_line(sums, payee, day_trade), payee, margin);
+// The contract's currency, and the rate that lines are converted at.
+#[derive(Clone, Copy)]
+pub(crate) struct Conversion {
+    pub currency: Currency,
+    pub rate: Rate,
+}
+
+impl Conversion {
+    // Pays one line, of an amount that fits.
+    fn pay_line(self, cents: i64, payee: Residency) -> Payment
+        requires { unsigned_abs cents ≤ 600000000000 }
+        ensures value { result ≡ payment_of cents self.currency payee self.rate.number }
+        ensures within { PaidIn result }
+    {
+        let amount = Amount::new(cents).unwrap();
+        pay(amount, self.currency, payee, self.rate)
     }
-    sums
+
+    // Pays each account what it is owed into its row of the page, and says what the page comes to.
+    pub(crate) fn pay_page(self, accounts: &[Account], owed: &[Owed], page: &mut [PageRow]) -> Sums
+        requires few { length accounts.now ≤ 64 }
+        requires beside { length owed.now ≡ length accounts.now }
+        requires page { length accounts.now ≤ length page.old }
+        ensures page { page.new ≡ over (zip2 (row_to self.currency self.rate.number) accounts.now owed.now) page.old }
+        ensures sums { result ≡ sums_of (lines_to self.currency self.rate.number accounts.now owed.now) }
+    {
+        let mut sums = Sums::default();
+        // No zip with the page's rows: a proof knows nothing of what an `iter_mut` leaves under an adapter of two.
+        for (i, account) in accounts.iter().enumerate() {
+            let payee = account.residency;
+            let owed = owed[i];
+            let day_trade = self.pay_line(owed.day_trade, payee);
+            let margin = self.pay_line(owed.margin, payee);
+            page[i] = PageRow {
+                day_trade: day_trade.paid,
+                margin: margin.paid,
+            };
+            sums = add_line(add_line(sums, payee, day_trade), payee, margin);
+        }
+        sums
+    }
 }

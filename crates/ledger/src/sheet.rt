@@ -1,23 +1,74 @@
 // The day sheet, read for one account and one side.
-ghost use Rattle.std.specs.Prelude.{◌≡◌, ℕ, ◌+◌, ◌-◌, ◌*◌, ◌<◌, ◌≤◌, min, length, take, drop, sum};
-ghost use Rattle.std.specs.List.{AllByRecursion};
+ghost use Rattle.std.specs.Prelude.{◌≡◌, ℕ, ◌+◌, ◌*◌, ◌<◌, ◌≤◌, min, length, take, drop, sum, slice_index_or};
 ghost use Rattle.tally.specs.Book.{prices};
-ghost use Rattle.ledger.specs.Sheets.{Traded, on_side, party_to, contracts_on};
+ghost use Rattle.ledger.specs.Sheets.{contracts_on, no_trade, on_side, party_to};
 
 use tally::rows::Trade;
 
-// A side of a trade.
+// A side of a trade. An enum, and no closure that reads the party: which postings are a side's is a definition by the side.
 #[derive(Clone, Copy)]
 pub(crate) enum Side {
     Bought,
     Sold,
 }
 
-// Contracts, and what they were traded at in all.
+impl Side {
+    // Who a trade is of, on this side.
+    fn party(self, trade: &Trade) -> usize
+        ensures { result ≡ party_to self trade.now }
+    {
+        match self {
+            Side::Bought => trade.buyer,
+            Side::Sold => trade.seller,
+        }
+    }
+
+    // The account's contracts in one trade, on this side of it.
+    pub(crate) fn contracts(self, trade: &Trade, account: usize) -> u64
+        ensures value { result ≡ contracts_on account self trade.now }
+        ensures below { result ≤ trade.now.contracts }
+    {
+        if self.party(trade) == account {
+            trade.contracts
+        } else {
+            0
+        }
+    }
+}
+
+// Contracts of one account and one day, and what they were traded at in all.
 #[derive(Clone, Copy)]
 pub(crate) struct Part {
     pub contracts: u64,
     pub value: u64,
+    ghost counted: { contracts ≤ 3000 },
+    ghost priced: { value ≤ 999999 * contracts },
+}
+
+impl Part {
+    // No contracts.
+    fn none() -> Part
+        ensures contracts { result.contracts ≡ 0 }
+        ensures value { result.value ≡ 0 }
+    {
+        Part {
+            contracts: 0,
+            value: 0,
+        }
+    }
+
+    // The part with some contracts more, at one price.
+    fn with(self, contracts: u64, price: u64) -> Part
+        requires counted { self.contracts + contracts ≤ 3000 }
+        requires price { price ≤ 999999 }
+        ensures contracts { result.contracts ≡ self.contracts + contracts }
+        ensures value { result.value ≡ self.value + price * contracts }
+    {
+        Part {
+            contracts: self.contracts + contracts,
+            value: self.value + price * contracts,
+        }
+    }
 }
 
 // The contracts of an account on one side of the sheet: those that offset the other side, and those left.
@@ -27,63 +78,33 @@ pub(crate) struct Split {
     pub left: Part,
 }
 
-fn party(trade: Trade, side: Side) -> usize
-    ensures { result ≡ party_to side trade }
-{
-    match side {
-        Side::Bought => trade.buyer,
-        Side::Sold => trade.seller,
-    }
+// The trades of a day, each at a price.
+#[derive(Clone, Copy)]
+pub(crate) struct Sheet<'a> {
+    pub trades: &'a [Trade],
+    ghost priced: { (i : ℕ) → i < length trades.now → (slice_index_or trades.now i no_trade).price ≤ 999999 },
 }
 
-// The account's contracts in one trade, on one side of it.
-pub(crate) fn contracts_on(trade: Trade, account: usize, side: Side) -> u64
-    ensures value { result ≡ contracts_on account side trade }
-    ensures below { result ≤ trade.contracts }
-{
-    if party(trade, side) == account {
-        trade.contracts
-    } else {
-        0
+impl<'a> Sheet<'a> {
+    // Splits one side for an account: the first `offset` contracts offset, the others are left. One pass.
+    pub(crate) fn split(&self, account: usize, side: Side, offset: u64) -> Split
+        requires { length (prices account (on_side side self.now.trades.now)) ≤ 3000 }
+        ensures offset { result.offset.contracts ≡ min offset (length (prices account (on_side side self.now.trades.now))) }
+        ensures offset_value { result.offset.value ≡ sum (take offset (prices account (on_side side self.now.trades.now))) }
+        ensures left { result.left.contracts ≡ length (drop offset (prices account (on_side side self.now.trades.now))) }
+        ensures left_value { result.left.value ≡ sum (drop offset (prices account (on_side side self.now.trades.now))) }
+    {
+        let mut first = Part::none();
+        let mut left = Part::none();
+        for trade in self.trades {
+            let contracts = side.contracts(trade, account);
+            let offsets = contracts.min(offset - first.contracts);
+            first = first.with(offsets, trade.price);
+            left = left.with(contracts - offsets, trade.price);
+        }
+        Split {
+            offset: first,
+            left,
+        }
     }
-}
-
-// What contracts at one price come to.
-fn worth(price: u64, contracts: u64) -> u64
-    requires price { price ≤ 999999 }
-    requires contracts { contracts ≤ 3000 }
-    ensures value { result ≡ price * contracts }
-    ensures below { result ≤ 999999 * contracts }
-{
-    price * contracts
-}
-
-// Splits one side of the sheet for an account: the first `offset` contracts offset, the others are left. One pass.
-pub(crate) fn read_side(sheet: &[Trade], account: usize, side: Side, offset: u64) -> Split
-    requires short { length sheet.now ≤ 1024 }
-    requires traded { AllByRecursion Traded sheet.now }
-    ensures offset { result.offset.contracts ≡ min offset (length (prices account (on_side side sheet.now))) }
-    ensures offset_value { result.offset.value ≡ sum (take offset (prices account (on_side side sheet.now))) }
-    ensures left { result.left.contracts ≡ length (drop offset (prices account (on_side side sheet.now))) }
-    ensures priced { (result.offset.value ≤ 999999 * result.offset.contracts) × (result.left.value ≤ 999999 * result.left.contracts) }
-    ensures left_value { result.left.value ≡ sum (drop offset (prices account (on_side side sheet.now))) }
-{
-    let none = Part {
-        contracts: 0,
-        value: 0,
-    };
-    let mut done = Split {
-        offset: none,
-        left: none,
-    };
-    for trade in sheet {
-        let contracts = contracts_on(*trade, account, side);
-        let first = contracts.min(offset - done.offset.contracts);
-        let rest = contracts - first;
-        done.offset.contracts += first;
-        done.offset.value += worth(trade.price, first);
-        done.left.contracts += rest;
-        done.left.value += worth(trade.price, rest);
-    }
-    done
 }

@@ -1,8 +1,9 @@
 // The ledger of a book: its terms, its tables, and that some run of calls led to it.
-ghost use Rattle.std.specs.Prelude.{◌≡◌, ◌≤◌, length, take};
-ghost use Rattle.tally.specs.Book.{Terms as Built};
+ghost use Rattle.std.specs.Prelude.{◌≡◌};
 ghost use Rattle.ledger.specs.Reached.{Reached, viewed, built_on};
 
+use aged::Line;
+use arrayvec::ArrayVec;
 use money::currency::Currency;
 use tally::rows::{Account, Lot, Notice, Trade};
 
@@ -16,8 +17,23 @@ pub mod payout;
 pub mod readers;
 pub mod trades;
 
+// The accounts that a book has room for.
+pub(crate) const ACCOUNTS: usize = 64;
+
+// The rows of a day's sheet.
+pub(crate) const SHEET_ROWS: usize = 1_024;
+
+// The lots that a book has room for.
+pub(crate) const LOT_ROWS: usize = 1_024;
+
+// The notices that a book has room for.
+pub(crate) const NOTICE_ROWS: usize = 64;
+
+// The most contracts that an account may have either way, and buy, sell or give notice of in a day.
+pub(crate) const MAX_CONTRACTS: u64 = 3_000;
+
 // What a book is built on: the kind's size, currency, tick and delivery, the last session, and the sessions from and to which notice can be given.
-#[derive(Clone, Copy)]
+#[derive(Clone, Copy, Debug, PartialEq, Eq)]
 pub struct BookTerms {
     pub size: u32,
     pub currency: Currency,
@@ -31,18 +47,13 @@ pub struct BookTerms {
 #[derive(Drop)]
 pub struct Ledger {
     terms: BookTerms,
-    accounts: [Account; 64],
-    registered: usize,
-    sheet: [Trade; 1024],
-    written: usize,
-    lots: [Lot; 1024],
-    lots_used: usize,
-    notices: [Notice; 64],
-    notices_used: usize,
+    accounts: ArrayVec<Account, ACCOUNTS>,
+    sheet: ArrayVec<Trade, SHEET_ROWS>,
+    lots: Line<Lot, LOT_ROWS>,
+    notices: Line<Notice, NOTICE_ROWS>,
     session: u32,
     price: u32,
     rate: u32,
     expired: bool,
-    ghost tables: { ((length accounts ≡ 64) × (registered ≤ 64)) × ((length sheet ≡ 1024) × (written ≤ 1024)) × ((length lots ≡ 1024) × (lots_used ≤ 1024)) × ((length notices ≡ 64) × (notices_used ≤ 64)) },
-    ghost reached: { ∥ Reached (built_on terms.size terms.currency terms.tick terms.delivers terms.last terms.opens terms.closes) (viewed (take registered accounts) (take written sheet) (take lots_used lots) (take notices_used notices) session price rate expired) ∥₁ },
+    ghost reached: { ∥ Reached (built_on terms.size terms.currency terms.tick terms.delivers terms.last terms.opens terms.closes) (viewed accounts.items sheet.items lots notices session price rate expired) ∥₁ },
 }

@@ -2,8 +2,7 @@
 use Rattle.std.proofs.lemmas.Grind.{common_steps}
 use Rattle.std.proofs.Common.{◌≡◌, ℕ, ◌+◌, ◌-◌, ◌≤◌, Bool, true, false, cond, eqb, leb, List, [], ◌∷◌, ◌++◌, length, refl, ap, ◌∙◌, arith}
 use Rattle.std.specs.List.{AllByRecursion}
-use Rattle.std.proofs.lemmas.Bool.{ne_eqb, eqb-true, leb-true, leb-false, lt-leb}
-use Rattle.std.proofs.lemmas.Bool.Decides.{nat_tests}
+use Rattle.std.proofs.lemmas.Bool.{ne_eqb, eqb-true, leb-true, leb-false}
 use Rattle.aged.specs.Line.{Counting, held_by, take_picked, take_oldest, take_of}
 
 -- ---- what stays true of rows when some is taken
@@ -14,7 +13,7 @@ module _ {R : Type 0} (c : Counting R) (picks : R → Bool) where
 
   pub no_longer : (n : ℕ) (rs : List R) → length (take_picked c picks n rs) ≤ length rs
   no_longer n [] = omega arith
-  no_longer n (x ∷ rs) = let a = no_longer (n - c.count x) rs in let b = no_longer n rs in grind (arith, nat_tests)
+  no_longer n (x ∷ rs) = let a = no_longer (n - c.count x) rs in let b = no_longer n rs in grind arith
 
 -- ---- what owners hold
 module _ {R : Type 0} (c : Counting R) (owner : R → ℕ) (keeps : (x : R) (n : ℕ) → owner (c.recount x n) ≡ owner x) where
@@ -23,7 +22,7 @@ module _ {R : Type 0} (c : Counting R) (owner : R → ℕ) (keeps : (x : R) (n :
 
   pub held_append : (k : ℕ) (xs ys : List R) → held_by c owner k (xs ++ ys) ≡ held_by c owner k xs + held_by c owner k ys
   held_append k [] ys = omega arith
-  held_append k (x ∷ xs) ys = grind (arith, held_cons, held_append k xs ys)
+  held_append k (x ∷ xs) ys = grind (arith, held_append k xs ys)
 
   pub held_push : (k : ℕ) (xs : List R) (x : R) → held_by c owner k (xs ++ x ∷ []) ≡ held_by c owner k xs + cond (eqb (owner x) k) (c.count x) 0
   held_push k xs x = held_append k xs (x ∷ []) ∙ omega (arith, held_cons k x [])
@@ -50,7 +49,7 @@ module _ {R : Type 0} (c : Counting R) where
   none_taken (x ∷ rs) = refl
 
   pub oldest_is : (m : ℕ) (x : R) (rs : List R) → 1 ≤ c.count x → m ≤ c.count x → take_oldest c m (x ∷ rs) ≡ cond (leb (c.count x) m) rs (c.recount x (c.count x - m) ∷ rs)
-  oldest_is m x rs some le = grind (arith, eqb-true, lt-leb, leb-true, none_taken)
+  oldest_is m x rs some le = grind (arith, none_taken)
 
 module _ {R : Type 0} (c : Counting R) (owner : R → ℕ) (keeps : (x : R) (n : ℕ) → owner (c.recount x n) ≡ owner x) where
   pub held_first : (k m : ℕ) (x : R) (rs : List R) → 1 ≤ c.count x → m ≤ c.count x → held_by c owner k (take_oldest c m (x ∷ rs)) + cond (eqb (owner x) k) m 0 ≡ held_by c owner k (x ∷ rs)

@@ -1,11 +1,11 @@
 -- How large the numbers of a tally can get.
 use Rattle.std.proofs.lemmas.Grind.{common_steps}
-use Rattle.std.proofs.Common.{◌≡◌, ℕ, zero, suc, ◌+◌, ◌*◌, ◌<◌, ◌≤◌, true, false, cond, List, [], ◌∷◌, ◌++◌, length, replicate, ℤ, pos, ◌+ℤ◌, ◌-ℤ◌, neg_ℤ, None, sum, sym, refl, ap, subst, ⊎_elim, mul-le-mul, arith}
+use Rattle.std.proofs.Common.{◌≡◌, ℕ, zero, suc, ◌+◌, ◌*◌, ◌<◌, ◌≤◌, false, cond, List, [], ◌∷◌, ◌++◌, length, replicate, ℤ, pos, ◌+ℤ◌, ◌-ℤ◌, neg_ℤ, None, sum, sym, refl, ap, subst, ⊎_elim, mul-le-mul, arith}
 use borrow.Author.Differences.{up, down, sum_is_lem, neg_is}
 use Rattle.std.specs.List.{AllByRecursion}
 use Rattle.std.proofs.ByRecursion.{All-push, All-map, All-weaker, sum_by_le}
 use Rattle.std.proofs.lemmas.List.Sums.{sum_by-append}
-use Rattle.std.proofs.lemmas.Bool.{and_parts, leb-true, eq-eqb, ne_eqb, cases_eq, cases_lt, not-true, eqb-false}
+use Rattle.std.proofs.lemmas.Bool.{and_parts, leb-true, eq-eqb, ne_eqb, cases_eq, cases_lt}
 use Rattle.tally.specs.declared.rows.Account.{Account}
 use Rattle.tally.specs.declared.rows.Trade.{Trade}
 use Rattle.tally.specs.declared.rows.Lot.{Lot}
@@ -17,18 +17,18 @@ use Rattle.tally.specs.Account.{long, short}
 use Rattle.tally.specs.Book.{Terms, Posting, Tally, View, numbered, prices, buy, sell, buys, sells, carried, account, seen}
 use Rattle.tally.specs.Events.{registering, trading, noticing}
 use Rattle.tally.specs.Law.{Registered}
-use Rattle.tally.specs.Questions.{questions, verdict, find, net_of, at_most_3000}
+use Rattle.tally.specs.Questions.{questions, verdict, find, net_of}
 use Rattle.tally.specs.Runs.{begun}
 use Rattle.tally.specs.Steps.{entered, fed_marking, fed_designation, fed_expiry}
 use Rattle.tally.proofs.Clock.{Clocked}
-use Rattle.tally.proofs.Facts.{met, between_is, someone, today, found, today_is, today_traded, count_buys, count_sells, one_is_0, prices_stranger}
+use Rattle.tally.proofs.Facts.{met, someone, today, found, today_is, today_traded, count_buys, count_sells, one_is_0, prices_stranger}
 use Rattle.tally.proofs.Kept.{waited}
 use Rattle.tally.proofs.Law.{shows_account}
 use Rattle.tally.proofs.Numbered.{prices_append, prices_one, each, prices_each}
 use Rattle.tally.proofs.Positions.{net_is, worth, worth_is, worth_net, worth_at, sum_replicate}
 use Rattle.tally.proofs.Ring.{times}
 use Rattle.tally.proofs.Sound.{Sound, registers, next, sides, carries, nets, first_notice}
-use Rattle.tally.proofs.Square.{two, closed_carried}
+use Rattle.tally.proofs.Square.{closed_carried}
 
 -- what an account's position is worth, for a size of one
 abbrev pub worth_of : Tally → ℕ → ℤ
@@ -77,9 +77,6 @@ sum_in xs h = omega (arith, sum_by_le (λ x. x) 999999 xs h)
 pub bounded_begun : BoundedTally begun
 bounded_begun = grind arith
 
-small_is : (z : ℤ) → at_most_3000 z ≡ true → Small 3000 z
-small_is z e = grind arith
-
 -- what an accepted trade tells
 record Told (t : Tally) (w : Trade) (b s : Account) : Type 0 where
   buyer : Registered (length t.parties) w.buyer
@@ -97,7 +94,7 @@ module _ (c : Terms) (windows : c.delivers ≡ false → c.closes ≡ 0) (t : Ta
 
   told : (w : Trade) → verdict c v (trading w) ≡ None → Told t w (find v w.buyer) (find v w.seller)
   unfolding questions
-  told w e = grind (arith, met, and_parts, between_is, registers, eqb-false, not-true, small_is, leb-true)
+  told w e = grind (arith, met, and_parts, registers, leb-true)
 
   -- what the account shows of today
   shows : (k : ℕ) → Registered (length t.parties) k → ((find v k).bought ≡ length (prices k (buys t.waiting))) × ((find v k).sold ≡ length (prices k (sells t.waiting)))
@@ -154,8 +151,8 @@ module _ (c : Terms) (windows : c.delivers ≡ false → c.closes ≡ 0) (t : Ta
       let f = told w e in
       record {
         trades_in = All-push TradeIn t.waiting w d.trades_in f.fits;
-        bought_in = λ k r. grind (arith, count_buys, shows, ne_eqb, cases_eq);
-        sold_in = λ k r. grind (arith, count_sells, shows, ne_eqb, cases_eq);
+        bought_in = λ k r. grind (arith, count_buys, shows);
+        sold_in = λ k r. grind (arith, count_sells, shows);
         carried_in = d.carried_in;
         net_in = λ k r. net_traded w f k r;
         worth_in = d.worth_in;
@@ -215,7 +212,7 @@ module _ (c : Terms) (windows : c.delivers ≡ false → c.closes ≡ 0) (t : Ta
               one_is_0 (today t k),
               one_is_0 (today (fed_designation t x l) k),
             );
-        worth_in = λ k r. grind (arith, prices_append, prices_one, worth, two, worth_at);
+        worth_in = λ k r. grind (arith, prices_append, prices_one, worth_at);
       }
 
   -- a marking changes the worth by what is carried at the old price, what is net at the new one, and the prices of the day: 3,000 contracts each

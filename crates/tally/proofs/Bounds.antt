@@ -1,6 +1,6 @@
 -- No number of a run is large.
 use Rattle.std.proofs.Common.{◌≡◌, ℕ, ◌+◌, ◌-◌, ◌*◌, ◌≤◌, true, false, cond, not, ◌&&◌, eqb, List, [], ◌∷◌, length, get_or, nat_abs, Some, None, fold, sym, refl, ap, subst, arith}
-use borrow.Author.Differences.{down, product_is, abs_is}
+use borrow.Author.Differences.{down}
 use Rattle.std.specs.List.{AllByRecursion}
 use Rattle.std.proofs.lemmas.Bool.{ltb-true, not-true, and_parts, eq-eqb}
 use Rattle.tally.specs.declared.rows.Trade.{Trade}
@@ -17,7 +17,7 @@ use Rattle.tally.specs.Rows.{lot_counting}
 use Rattle.tally.specs.Runs.{fed, begun, tally}
 use Rattle.tally.specs.Steps.{entered, fed_oldest}
 use Rattle.tally.proofs.Aging.{held_cons}
-use Rattle.tally.proofs.Bounded.{TradeIn, BoundedTally, worth_of, limit, product, bounded_begun, bounded_register, bounded_trade, bounded_notice, bounded_designation, bounded_marking, bounded_expiry}
+use Rattle.tally.proofs.Bounded.{TradeIn, BoundedTally, limit, product, bounded_begun, bounded_register, bounded_trade, bounded_notice, bounded_designation, bounded_marking, bounded_expiry}
 use Rattle.tally.proofs.Clock.{Clocked, clocked_begun, clocked_fed}
 use Rattle.tally.proofs.Facts.{met, between_is, length_numbered, someone}
 use Rattle.tally.proofs.Law.{shows_account}
@@ -104,7 +104,7 @@ module _ (c : Terms) (sized : c.size ≤ 100) (t : Tally) (h : Standing c t) whe
   v = seen c.size t
 
   total_fits : (k : ℕ) → Registered (length t.parties) k → nat_abs (position c.size t.price (prices k t.bought) (prices k t.sold)) ≤ c.size * limit t
-  total_fits k r = grind (arith, worth_of, position_worth, abs_is, product_is, product, limit)
+  total_fits k r = grind (arith, position_worth, product)
 
   account_fits : (k : ℕ) (p : Registration) → Registered (length t.parties) k → AccountBounded c v k (account c.size t k p)
   unfolding account
@@ -142,8 +142,8 @@ module _ (c : Terms) (sized : c.size ≤ 100) (t : Tally) (h : Standing c t) whe
             (lots_fit n 0 0 t.session t.lots h.sound.holders h.sound.lots_ordered (λ j r. omega (arith, h.sound.lots_are j r, (h.small.carried_in j r).0)));
         notices_in = subst (λ i. AllByRecursion (NoticeBounded i t.session) t.notices) (sym many)
             (notices_fit n 0 t.session t.notices h.sound.sellers h.sound.ordered (λ j r. omega (arith, h.sound.under_short j, (h.small.net_in j r).1)));
-        marking_in = λ price e. grind (arith, marking_fits, between_is);
-        expiry_in = λ final e. grind (arith, expiry_fits, between_is);
+        marking_in = λ price e. grind (arith, marking_fits);
+        expiry_in = λ final e. grind (arith, expiry_fits);
       }
 
 pub bounds : BoundsLaw

@@ -1,6 +1,5 @@
 -- Sessions, settlement prices and rates of a run.
 use Rattle.std.proofs.Common.{◌≡◌, ◌+◌, ◌<◌, ◌≤◌, List, [], ◌∷◌, Some, None, fold, arith}
-use Rattle.std.proofs.lemmas.Bool.{leb-true}
 use Rattle.tally.specs.declared.rows.Lot.{Lot}
 use Rattle.tally.specs.declared.rows.Notice.{Notice}
 use Rattle.tally.specs.Book.{Terms, Tally, seen}
@@ -8,7 +7,7 @@ use Rattle.tally.specs.Events.{Event, registering, trading, quoting, noticing, d
 use Rattle.tally.specs.Questions.{questions, verdict}
 use Rattle.tally.specs.Runs.{fed, begun, tally}
 use Rattle.tally.specs.Steps.{entered, fed_oldest, fed_marking, fed_designation, fed_expiry}
-use Rattle.tally.proofs.Facts.{met, between_is}
+use Rattle.tally.proofs.Facts.{met}
 
 pub record Clocked (c : Terms) (t : Tally) : Type 0 where
   pub started : 1 ≤ t.session
@@ -35,7 +34,7 @@ module _ (c : Terms) (t : Tally) (h : Clocked c t) where
   clocked_entered (quoting q r) e = h
   clocked_entered (noticing n) e = grind arith
   clocked_entered designating e = clocked_oldest t.notices t.lots
-  clocked_entered (marking m r) e = grind (arith, met, between_is, leb-true)
+  clocked_entered (marking m r) e = grind (arith, met)
   clocked_entered (expiring None r) e = h
   clocked_entered (expiring (Some f) r) e = grind arith
 

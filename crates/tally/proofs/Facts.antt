@@ -3,7 +3,6 @@ use Rattle.std.proofs.Common.{◌≡◌, ℕ, zero, suc, ◌+◌, ◌-◌, ◌<�
 use borrow.Author.Differences.{up, down}
 use Rattle.std.specs.List.{AllByRecursion}
 use Rattle.std.proofs.lemmas.List.{map_push, length-append, length-replicate}
-use Rattle.std.proofs.lemmas.Bool.{ne_eqb}
 use Rattle.tally.specs.declared.rows.Trade.{Trade}
 use Rattle.tally.specs.declared.call.Registration.{Registration}
 use Rattle.tally.specs.Account.{net}
@@ -71,7 +70,7 @@ one_is_0 (negsuc n) = omega arith
 pub prices_stranger : (n k : ℕ) (ps : List Posting) → n < k → AllByRecursion (λ p. Registered n p.holder) ps → prices k ps ≡ []
 unfolding prices
 prices_stranger n k [] lt h = refl
-prices_stranger n k (p ∷ ps) lt h = grind (arith, ne_eqb, prices_stranger n k ps lt h.1)
+prices_stranger n k (p ∷ ps) lt h = grind (arith, prices_stranger n k ps lt h.1)
 
 pub carried_stranger : (t : Tally) (k : ℕ) → Balanced t → length t.parties < k → up (carried t k) ≡ 0
 carried_stranger t k h lt =

@@ -17,7 +17,6 @@ use Rattle.tally.specs.Law.{Registered, totals}
 use Rattle.tally.specs.Pages.{sumℤ, by_marking, by_expiry}
 use Rattle.tally.proofs.Balance.{contracts, worth_of, Balanced}
 use Rattle.tally.proofs.Positions.{net_is}
-use Rattle.tally.proofs.Ring.{times}
 use Rattle.tally.proofs.Numbered.{map_numbered, each}
 use Rattle.tally.proofs.Zero.{over, all_contracts, totals_zero}
 use Rattle.tally.proofs.Square.{mark_square, expire_square}
@@ -38,7 +37,7 @@ balanced_marking t m h = let w = waited (length t.parties) t.waiting h.traders i
   buyers = All-append _ t.bought (buys t.waiting) h.buyers w.0;
   sellers = All-append _ t.sold (sells t.waiting) h.sellers w.1;
   traders = tt;
-  evenly = grind (arith, sum_by-append, contracts, matched);
+  evenly = grind (arith, sum_by-append, matched);
   values = grind (arith, common_steps);
 }
 
@@ -84,8 +83,8 @@ balanced_expiry t final h =
       buyers = All-append _ t.bought bs h.buyers (each_in final ss 1 (length t.parties) t.parties (omega arith) (omega arith));
       sellers = All-append _ t.sold es h.sellers (each_in final ls 1 (length t.parties) t.parties (omega arith) (omega arith));
       traders = h.traders;
-      evenly = grind (arith, sum_by-append, contracts);
-      values = grind (arith, sum_by-append, worth_of, times);
+      evenly = grind (arith, sum_by-append);
+      values = grind (arith, sum_by-append);
     }
 
 -- ---- pages

@@ -2,7 +2,7 @@
 use Rattle.std.proofs.Common.{◌≡◌, ℕ, ◌+◌, ◌-◌, ◌<◌, ◌≤◌, false, cond, not, ◌&&◌, eqb, ltb, leb, List, [], ◌∷◌, ◌++◌, length, get_or, pos, ◌+ℤ◌, ◌-ℤ◌, ◌*ℤ◌, Some, None, fold, sum, Option, sym, refl, ap, ◌∙◌, subst, arith}
 use Rattle.std.specs.List.{AllByRecursion}
 use Rattle.std.proofs.lemmas.List.{append_assoc, append-nil}
-use Rattle.std.proofs.lemmas.Bool.{and_parts, eqb-true, not-true, false≢true}
+use Rattle.std.proofs.lemmas.Bool.{and_parts, eqb-true, false≢true}
 use Rattle.tally.specs.declared.rows.Lot.{Lot}
 use Rattle.tally.specs.declared.rows.Notice.{Notice}
 use Rattle.tally.specs.declared.call.Marking.{Marking}
@@ -83,7 +83,7 @@ module _ (c : Terms) (xs : List Entry) (t : Tally) (told : Told c xs t) where
 
   carries : (k : ℕ) → Registered (length t.parties) k → carried t k ≡ carried_by xs k
   unfolding net
-  carries k r = grind (arith, prices_count, counts)
+  carries k r = grind (arith, prices_count)
 
   worth : (k : ℕ) → Registered (length t.parties) k →
       position c.size t.price (prices k t.bought) (prices k t.sold) ≡ pos c.size *ℤ (((carried_by xs k *ℤ pos (settlement_price xs)) +ℤ pos (value sold xs k)) -ℤ pos (value bought xs k))
@@ -96,7 +96,7 @@ module _ (c : Terms) (xs : List Entry) (t : Tally) (told : Told c xs t) where
 
 -- the account that the tally shows under a number
 pub shows_account : (c : Terms) (t : Tally) (k : ℕ) → Registered (length t.parties) k → find (seen c.size t) k ≡ account c.size t k (get_or t.parties (k - 1) someone)
-shows_account c t k r = grind (arith, get_d_numbered, someone)
+shows_account c t k r = grind (arith, get_d_numbered)
 
 -- ---- a call that a run meets
 module _ (c : Terms) (b : Buildable c) (t : Tally) (h : Sound c t) (k : Clocked c t) where
@@ -130,7 +130,7 @@ module _ (c : Terms) (b : Buildable c) (t : Tally) (h : Sound c t) (k : Clocked 
 
   undue_met : (m : Marking) (room : ℕ) → verdict c v (marking m room) ≡ None → AllByRecursion (λ n. n.session ≡ t.session) t.notices
   unfolding questions
-  undue_met m room q = grind (arith, ordered_undue, not-true, met)
+  undue_met m room q = grind (arith, ordered_undue, met)
 
   none_due : (verdict c v designating ≡ None → ⊥) → is_due t.session t.notices ≡ false
   unfolding questions first_unmet

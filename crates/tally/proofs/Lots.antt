@@ -3,8 +3,7 @@ use Rattle.std.proofs.lemmas.Grind.{common_steps}
 use Rattle.std.proofs.Common.{◌≡◌, ℕ, ◌+◌, ◌-◌, ◌<◌, ◌≤◌, Bool, cond, eqb, ltb, List, [], ◌∷◌, ◌++◌, length, ℤ, refl, ◌∙◌, ⊎_elim, arith}
 use Rattle.std.specs.List.{AllByRecursion}
 use Rattle.std.proofs.lemmas.List.{length-append}
-use Rattle.std.proofs.lemmas.Bool.{eq-eqb, ne_eqb, cases_eq, leb-false, ltb-true}
-use Rattle.std.proofs.lemmas.Bool.Decides.{nat_tests}
+use Rattle.std.proofs.lemmas.Bool.{cases_eq, leb-false}
 use Rattle.aged.specs.Line.{take_picked, every}
 use Rattle.tally.specs.declared.rows.Lot.{Lot}
 use Rattle.tally.specs.Account.{long}
@@ -13,7 +12,7 @@ use Rattle.tally.specs.Law.{Registered, Behind, LotsInOrder}
 use Rattle.tally.specs.Questions.{in_lots}
 use Rattle.tally.specs.Rows.{lot_counting}
 use Rattle.tally.specs.Steps.{Change, less_lots, less_oldest_lots, aged, turned}
-use Rattle.tally.proofs.Aging.{all_left, no_longer, held_cons, held_push, held_own, held_other, held_first}
+use Rattle.tally.proofs.Aging.{all_left, no_longer, held_push, held_own, held_other, held_first}
 
 abbrev whose : Lot → ℕ
 whose l = l.owner
@@ -40,7 +39,7 @@ less_other j k n ls d = held_other lot_counting whose same_owner j k n d ls
 pub lots_stranger : (n k : ℕ) (ls : List Lot) → n < k → AllByRecursion (λ l. Registered n l.owner) ls → in_lots k ls ≡ 0
 unfolding in_lots
 lots_stranger n k [] lt h = refl
-lots_stranger n k (l ∷ ls) lt h = grind (arith, held_cons, same_owner, ne_eqb, lots_stranger n k ls lt h.1)
+lots_stranger n k (l ∷ ls) lt h = grind (arith, lots_stranger n k ls lt h.1)
 
 pub none_in_lots : (k : ℕ) → in_lots k [] ≡ 0
 unfolding in_lots
@@ -52,11 +51,11 @@ new_lot s k before after = record { owner = k; session = s; count = long after -
 
 aged_own : (s k : ℕ) (before after : ℤ) (ls : List Lot) → in_lots k ls ≡ long before → in_lots k (aged s k before after ls) ≡ long after
 unfolding aged
-aged_own s k before after ls e = grind (arith, lots_push, eq-eqb, less_own, nat_tests)
+aged_own s k before after ls e = grind (arith, lots_push, less_own)
 
 aged_other : (s j k : ℕ) (before after : ℤ) (ls : List Lot) → (j ≡ k → ⊥) → in_lots k (aged s j before after ls) ≡ in_lots k ls
 unfolding aged
-aged_other s j k before after ls d = grind (arith, lots_push, ne_eqb, less_other, nat_tests)
+aged_other s j k before after ls d = grind (arith, lots_push, less_other)
 
 -- ---- all accounts at a marking
 module _ {X : Type 0} (s : ℕ) (c : ℕ → Change) where
@@ -87,7 +86,7 @@ module _ (P : Lot → Type 0) (stays : (l : Lot) (m : ℕ) → 1 ≤ m → m ≤
 
   all_aged : (s k : ℕ) (b a : ℤ) (ls : List Lot) → (long b < long a → P (new_lot s k b a)) → AllByRecursion P ls → AllByRecursion P (aged s k b a ls)
   unfolding aged less_lots
-  all_aged s k b a ls new h = grind (arith, common_steps, ltb-true, all_left)
+  all_aged s k b a ls new h = grind (arith, common_steps, all_left)
 
   pub all_turned : (s n : ℕ) (cs : List Change) (ls : List Lot) → ((k : ℕ) (b a : ℤ) → n ≤ k → k < n + length cs → long b < long a → P (new_lot s k b a)) → AllByRecursion P ls → AllByRecursion P (turned s n cs ls)
   unfolding turned
@@ -148,7 +147,7 @@ at_most s k n (l ∷ ls) o = (omega (arith, o.1), at_most l.session l.owner n ls
 
 order_aged : (s k : ℕ) (b a : ℤ) (ls : List Lot) → 1 ≤ k → AllByRecursion (Below s k) ls → LotsInOrder 0 0 (s + 1) ls → LotsInOrder 0 0 (s + 1) (aged s k b a ls)
 unfolding aged less_lots
-order_aged s k b a ls some below o = grind (arith, order_push, ltb-true, at_most, order_left)
+order_aged s k b a ls some below o = grind (arith, order_push, at_most, order_left)
 
 pub order_turned : (s n : ℕ) (cs : List Change) (ls : List Lot) → 1 ≤ n → AllByRecursion (Below s n) ls → LotsInOrder 0 0 (s + 1) ls → LotsInOrder 0 0 (s + 1) (turned s n cs ls)
 unfolding turned

@@ -2,8 +2,7 @@
 use Rattle.std.proofs.Common.{◌≡◌, ℕ, ◌+◌, ◌-◌, ◌<◌, ◌≤◌, true, false, cond, eqb, ltb, leb, List, [], ◌∷◌, ◌++◌, length, replicate, sym, refl, ap, ◌∙◌, arith}
 use Rattle.std.specs.List.{AllByRecursion}
 use Rattle.std.proofs.lemmas.List.{append_assoc, replicate-append-replicate}
-use Rattle.std.proofs.lemmas.Bool.{ne_eqb, leb-true, leb-false, ltb-false, lt-ltb}
-use Rattle.std.proofs.lemmas.Bool.Decides.{nat_tests}
+use Rattle.std.proofs.lemmas.Bool.{leb-true, lt-ltb}
 use Rattle.aged.specs.Line.{every}
 use Rattle.tally.specs.declared.rows.Notice.{Notice}
 use Rattle.tally.specs.Law.{Registered}
@@ -67,7 +66,7 @@ ordered_from lo l hi [] le o = tt
 ordered_from lo l hi (n ∷ ns) le o = (omega arith, o.1, o.2, o.3)
 
 pub ordered_less : (lo hi m : ℕ) (n : Notice) (ns : List Notice) → m ≤ n.count → Ordered lo hi (n ∷ ns) → Ordered lo hi (less_oldest_notices m (n ∷ ns))
-ordered_less lo hi m n ns le o = grind (arith, less_is, ordered_from, leb-false)
+ordered_less lo hi m n ns le o = grind (arith, less_is, ordered_from)
 
 ordered_same : (lo hi : ℕ) (ns : List Notice) → hi ≤ lo → Ordered lo hi ns → AllByRecursion (λ n. n.session ≡ hi) ns
 ordered_same lo hi [] le o = tt
@@ -75,7 +74,7 @@ ordered_same lo hi (n ∷ ns) le o = (omega arith, ordered_same n.session hi ns 
 
 pub ordered_undue : (lo hi : ℕ) (ns : List Notice) → is_due hi ns ≡ false → Ordered lo hi ns → AllByRecursion (λ n. n.session ≡ hi) ns
 ordered_undue lo hi [] e o = tt
-ordered_undue lo hi (n ∷ ns) e o = grind (arith, ltb-false, ordered_same)
+ordered_undue lo hi (n ∷ ns) e o = grind (arith, ordered_same)
 
 -- ---- what a seller has under notice since before a session
 unfoldable pub due : ℕ → ℕ → List Notice → ℕ
@@ -90,16 +89,16 @@ due_all lo hi k (n ∷ ns) o = let a = due_all n.session hi k ns o.3 in let b = 
 
 pub due_push : (k s : ℕ) (ns : List Notice) (n : Notice) → n.session ≡ s → due s k (ns ++ n ∷ []) ≡ due s k ns
 unfolding due
-due_push k s [] n e = grind (arith, nat_tests)
-due_push k s (x ∷ ns) n e = let a = due_push k s ns n e in grind (arith, nat_tests)
+due_push k s [] n e = grind arith
+due_push k s (x ∷ ns) n e = let a = due_push k s ns n e in grind arith
 
 pub due_first : (k s m : ℕ) (n : Notice) (ns : List Notice) → 1 ≤ n.count → m ≤ n.count → n.session < s → due s k (less_oldest_notices m (n ∷ ns)) + cond (eqb n.seller k) m 0 ≡ due s k (n ∷ ns)
 unfolding due
-due_first k s m n ns some le lt = rw (less_is m n ns some le) (grind (arith, nat_tests))
+due_first k s m n ns some le lt = rw (less_is m n ns some le) (grind arith)
 
 pub under_stranger : (n k : ℕ) (ns : List Notice) → n < k → AllByRecursion (λ x. Registered n x.seller) ns → under_notice k ns ≡ 0
 under_stranger n k [] lt h = none_under_notice k
-under_stranger n k (x ∷ ns) lt h = grind (arith, notices_cons, ne_eqb, under_stranger n k ns lt h.1)
+under_stranger n k (x ∷ ns) lt h = grind (arith, notices_cons, under_stranger n k ns lt h.1)
 
 -- ---- contract by contract
 pub sellers_append : (xs ys : List Notice) → sellers (xs ++ ys) ≡ sellers xs ++ sellers ys

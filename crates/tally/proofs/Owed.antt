@@ -1,6 +1,6 @@
 -- What a page owes an account fits a line of money.
 use Rattle.std.proofs.Common.{◌≡◌, ℕ, ◌+◌, ◌*◌, ◌<◌, ◌≤◌, true, List, [], ◌∷◌, length, take, drop, ℤ, pos, negsuc, ◌+ℤ◌, ◌-ℤ◌, ◌*ℤ◌, neg_ℤ, sum, sym, refl, subst, arith}
-use borrow.Author.Differences.{sum_is_lem, neg_is, product_is}
+use borrow.Author.Differences.{sum_is_lem, neg_is}
 use Rattle.std.specs.List.{AllByRecursion}
 use Rattle.std.proofs.ByRecursion.{All-drop}
 use Rattle.std.proofs.lemmas.List.{length-drop}
@@ -31,14 +31,14 @@ small_in m n a le p = omega (arith, p)
 
 -- a contract's size is 100 at most
 sized_in : (size n : ℕ) (z : ℤ) → size ≤ 100 → Small n z → Small (100 * n) (pos size *ℤ z)
-sized_in size n z le p = grind (arith, product_is, product)
+sized_in size n z le p = grind (arith, product)
 
 amount_in : (n : ℕ) (z : ℤ) → n ≤ 600000000000 → Small n z → is_amount z ≡ true
 amount_in n z le p = grind arith
 
 -- 3,000 contracts from one price to another
 span_in : (z : ℤ) (p q : ℕ) → p ≤ 999999 → q ≤ 999999 → Small 3000 z → Small 2999997000 (z *ℤ (pos p -ℤ pos q))
-span_in (pos n) p q a b s = grind (arith, span_is, one_is_0, product)
+span_in (pos n) p q a b s = grind (arith, product)
 span_in (negsuc n) p q a b s = grind (arith, span_is, one_is_0, product)
 
 above_in : (p : ℕ) (xs : List ℕ) → p ≤ 999999 → AllByRecursion (λ x. x ≤ 999999) xs → Small (999999 * length xs) (above p xs)

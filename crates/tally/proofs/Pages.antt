@@ -37,8 +37,8 @@ none_plus z = omega (arith, ints)
 line_weighs : (contract : Currency) (rate : ℕ) (payee : Residency) (owed : ℤ) →
     (pos 1000000 *ℤ paid_as Real payee (paid_of owed contract payee rate)) +ℤ (pos rate *ℤ paid_as Dollar payee (paid_of owed contract payee rate))
     ≡ (pos (weight contract rate) *ℤ owed) +ℤ (payment_of owed contract payee rate).remainder
-line_weighs contract rate Resident owed = grind (arith, owed, plus_none, over_owed)
-line_weighs contract rate Nonresident owed = grind (arith, owed, none_plus, over_owed)
+line_weighs contract rate Resident owed = grind (arith, plus_none)
+line_weighs contract rate Nonresident owed = grind (arith, over_owed)
 
 regroup : (a b c d e f r s : ℤ) → a +ℤ c ≡ e +ℤ r → b +ℤ d ≡ f +ℤ s → (a +ℤ b) +ℤ (c +ℤ d) ≡ (e +ℤ f) +ℤ (r +ℤ s)
 regroup a b c d e f r s p q = omega (arith, ints)
@@ -102,7 +102,7 @@ module _ (c : Terms) (rate : ℕ) (some : 0 < rate) (owes : Listed → Owed) whe
 
   pub balances : (xs : List Listed) → sumℤ (map (λ x. (owes x).day_trade +ℤ (owes x).margin) xs) ≡ pos 0 → Balances c rate (page c rate owes xs)
   balances xs z = record {
-    weighs = grind (arith, weighs, owed_both, none);
+    weighs = grind (arith, weighs, owed_both);
     allowed = allowed xs;
   }
     where

@@ -2,7 +2,6 @@
 use Rattle.std.proofs.Common.{◌≡◌, ℕ, ◌+◌, true, false, cond, List, [], ◌∷◌, ◌++◌, length, Some, None, is_ok, sum, Option, refl, arith}
 use Rattle.std.proofs.lemmas.List.{append_assoc, append-nil, length-append, length-replicate}
 use Rattle.std.proofs.lemmas.List.Sums.{sum_by-append}
-use Rattle.std.proofs.lemmas.Bool.{lt-ltb}
 use Rattle.tally.specs.declared.rows.Trade.{Trade}
 use Rattle.tally.specs.declared.rows.Notice.{Notice}
 use Rattle.tally.specs.declared.rows.Designation.{Designation}
@@ -20,19 +19,19 @@ markings_push (y ∷ xs) x = omega (arith, markings_push xs x)
 pub trades_append : (xs ys : List Entry) → trades (xs ++ ys) ≡ trades xs ++ trades ys
 unfolding trades
 trades_append [] ys = refl
-trades_append (x ∷ xs) ys = grind (arith, append_assoc, trades_append xs ys)
+trades_append (x ∷ xs) ys = grind (arith, trades_append xs ys)
 
 abbrev pub own_trades : Entry → List Trade
 own_trades x = cond (is_ok x.answer) (trade_in x.event) []
 
 pub trades_push : (xs : List Entry) (x : Entry) → trades (xs ++ x ∷ []) ≡ trades xs ++ own_trades x
 unfolding trades
-trades_push xs x = grind (arith, trades_append, append-nil)
+trades_push xs x = grind (arith, trades_append)
 
 pub designations_push : (xs : List Entry) (x : Entry) → designations (xs ++ x ∷ []) ≡ designations xs ++ designation_in x.answer
 unfolding designations
 designations_push [] x = append-nil (designation_in x.answer)
-designations_push (y ∷ xs) x = grind (arith, append_assoc, designations_push xs x)
+designations_push (y ∷ xs) x = grind (arith, designations_push xs x)
 
 abbrev pub own_notices : ℕ → Entry → List Notice
 own_notices s x = cond (is_ok x.answer) (notice_in s x.event) []
@@ -75,7 +74,7 @@ closed_push (y ∷ xs) x e = grind (arith, markings_push, closed_push xs x e)
 pub closed_all : (xs : List Entry) (x : Entry) → is_marking x ≡ true → closed (xs ++ x ∷ []) ≡ xs ++ x ∷ []
 unfolding closed markings
 closed_all [] x e = rw e refl
-closed_all (y ∷ xs) x e = grind (arith, markings_push, lt-ltb, closed_all xs x e)
+closed_all (y ∷ xs) x e = grind (arith, markings_push, closed_all xs x e)
 
 -- ---- counts
 pub contracts_append : (k : ℕ) (ps qs : List Posting) → contracts_of k (ps ++ qs) ≡ contracts_of k ps + contracts_of k qs

@@ -3,7 +3,7 @@ use Rattle.std.proofs.lemmas.Grind.{common_steps}
 use Rattle.std.proofs.Common.{◌≡◌, ℕ, ◌+◌, ◌<◌, ◌≤◌, false, cond, ltb, List, [], ◌∷◌, ◌++◌, length, None, count_by, refl, ap, arith}
 use Rattle.std.proofs.lemmas.List.{length-append}
 use Rattle.std.proofs.lemmas.List.Sums.{sum_by-cons}
-use Rattle.std.proofs.lemmas.Bool.{leb-true, ltb-true, cases_lt}
+use Rattle.std.proofs.lemmas.Bool.{leb-true}
 use Rattle.tally.specs.declared.rows.Trade.{Trade}
 use Rattle.tally.specs.declared.rows.Lot.{Lot}
 use Rattle.tally.specs.declared.rows.Notice.{Notice}
@@ -47,7 +47,7 @@ openings_push (y ∷ cs) x = omega (arith, openings_push cs x)
 openings_length : (cs : List Change) → openings cs ≤ length cs
 unfolding openings
 openings_length [] = omega arith
-openings_length (x ∷ cs) = grind (arith, opens_one, opens_none, cases_lt, openings_length cs)
+openings_length (x ∷ cs) = grind (arith, openings_length cs)
 
 module _ {X : Type 0} where
   openings_less : (f g : ℕ → X → Change) (n : ℕ) (xs : List X) → ((k : ℕ) (x : X) → n ≤ k → k < n + length xs → opens (f k x) ≤ opens (g k x)) → openings (numbered f n xs) ≤ openings (numbered g n xs)
@@ -96,7 +96,7 @@ module _ (c : Terms) (windows : c.delivers ≡ false → c.closes ≡ 0) (t : Ta
       let own = 1 + n in
       let lt : n < own = omega arith in
       record {
-        few_parties = grind (arith, ltb-true, length_numbered, length-append);
+        few_parties = grind (arith, length_numbered, length-append);
         few_trades = d.few_trades;
         few_notices = d.few_notices;
         few_lots = omega (
@@ -130,7 +130,7 @@ module _ (c : Terms) (windows : c.delivers ≡ false → c.closes ≡ 0) (t : Ta
       let q13 = met _ _ q12.1 in
       record {
         few_parties = d.few_parties;
-        few_trades = grind (arith, ltb-true, length-append);
+        few_trades = grind (arith, length-append);
         few_notices = d.few_notices;
         few_lots = omega (
           arith,
@@ -142,11 +142,11 @@ module _ (c : Terms) (windows : c.delivers ≡ false → c.closes ≡ 0) (t : Ta
 
   pub roomy_notice : (n : Notification) → verdict c v (noticing n) ≡ None → Roomy (entered t (noticing n))
   unfolding entered questions
-  roomy_notice n e = grind (arith, met, length-append, ltb-true)
+  roomy_notice n e = grind (arith, met, length-append)
 
   pub roomy_marking : (m : Marking) → Roomy (fed_marking t m)
   unfolding fed_marking prices
-  roomy_marking m = grind (arith, common_steps, length_turned, openings_none, opens_none, today_is, one_is_0, today, net_is)
+  roomy_marking m = grind (arith, common_steps, length_turned, openings_none)
 
   pub roomy_expiry : (final : ℕ) → Roomy (fed_expiry t final)
   unfolding fed_expiry

@@ -15,7 +15,7 @@ use Rattle.tally.specs.Runs.{after, fed, begun, shown, tally}
 use Rattle.tally.specs.Steps.{new_account, designate_oldest, fed_oldest, done, entered}
 use Rattle.tally.proofs.Facts.{met, count_buys, count_sells, prices_stranger}
 use Rattle.tally.proofs.Kept.{waited}
-use Rattle.tally.proofs.Numbered.{numbered_same, numbered_twice, numbered_push}
+use Rattle.tally.proofs.Numbered.{numbered_twice, numbered_push}
 use Rattle.tally.proofs.Positions.{position_none, net_none}
 use Rattle.tally.proofs.Sound.{Sound, sound_begun, sound_register, sound_trade, sound_notice, sound_marking, sound_expiry, sound_designation}
 use Rattle.tally.proofs.Square.{two, mark_square, designate_square, expire_square}
@@ -74,11 +74,11 @@ module _ (c : Terms) (windows : c.delivers ≡ false → c.closes ≡ 0) (t : Ta
 
   traded : (w : Trade) (k : ℕ) (p : Registration) → traded_account w k (account c.size t k p) ≡ account c.size (entered t (trading w)) k p
   unfolding account traded_account entered
-  traded w k p = grind (arith, two, count_buys, count_sells)
+  traded w k p = grind (arith, count_buys, count_sells)
 
   square_trade : (w : Trade) → done c v (trading w) ≡ seen c.size (entered t (trading w))
   unfolding done entered
-  square_trade w = grind (arith, numbered_twice, numbered_same, traded)
+  square_trade w = grind (arith, numbered_twice, traded)
 
   square_oldest : (ns : List Notice) (ls : List Lot) → designate_oldest v ns ls ≡ seen c.size (fed_oldest t ns ls)
   square_oldest [] ls = refl

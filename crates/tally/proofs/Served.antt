@@ -5,7 +5,7 @@ use Rattle.std.specs.List.{AllByRecursion}
 use Rattle.std.proofs.lemmas.List.Elements.{filter-append}
 use Rattle.std.proofs.ByRecursion.{All-weaker}
 use Rattle.std.proofs.lemmas.List.{append_assoc, append-nil}
-use Rattle.std.proofs.lemmas.Bool.{ltb-true, le-ltb, lt-ltb, not-true, false≢true, cases_lt}
+use Rattle.std.proofs.lemmas.Bool.{ltb-true, le-ltb, not-true, false≢true, cases_lt}
 use Rattle.tally.specs.declared.rows.Lot.{Lot}
 use Rattle.tally.specs.declared.rows.Notice.{Notice}
 use Rattle.tally.specs.declared.rows.Designation.{Designation}
@@ -57,11 +57,11 @@ every_session (n ∷ ns) = ap (λ l. n ∷ l) (every_session ns)
 
 all_before : (s : ℕ) (ns : List Notice) → AllByRecursion (λ n. n.session < s) ns → before s ns ≡ ns
 all_before s [] h = refl
-all_before s (n ∷ ns) h = grind (arith, lt-ltb, all_before s ns h.1)
+all_before s (n ∷ ns) h = grind (arith, all_before s ns h.1)
 
 none_before : (s : ℕ) (ns : List Notice) → AllByRecursion (λ n. n.session ≡ s) ns → before s ns ≡ []
 none_before s [] h = refl
-none_before s (n ∷ ns) h = grind (arith, le-ltb, none_before s ns h.1)
+none_before s (n ∷ ns) h = grind (arith, none_before s ns h.1)
 
 pub record Served (xs : List Entry) (t : Tally) : Type 0 where
   -- what was designated, with the session that it was noticed in

@@ -4,7 +4,7 @@ use borrow.Author.Differences.{up, down, sum_is_lem}
 use Rattle.std.specs.List.{AllByRecursion}
 use Rattle.std.proofs.ByRecursion.{All-push, All-weaker}
 use Rattle.std.proofs.lemmas.List.{length-append}
-use Rattle.std.proofs.lemmas.Bool.{and_parts, leb-true, eq-eqb, ne_eqb, cases_eq, cases_lt, not-true, lt-ltb}
+use Rattle.std.proofs.lemmas.Bool.{and_parts, leb-true, eq-eqb, ne_eqb, cases_eq, cases_lt, lt-ltb}
 use Rattle.tally.specs.declared.rows.Trade.{Trade}
 use Rattle.tally.specs.declared.rows.Lot.{Lot}
 use Rattle.tally.specs.declared.rows.Notice.{Notice}
@@ -25,7 +25,7 @@ use Rattle.tally.proofs.Kept.{balanced_marking, balanced_designation, balanced_e
 use Rattle.tally.proofs.Zero.{over}
 use Rattle.tally.proofs.Lots.{lots_first, lots_stranger, none_in_lots, turned_own, all_less_oldest, all_turned, order_less_oldest, order_until, order_turned, below_any}
 use Rattle.tally.proofs.Notices.{notices_push, notices_first, none_under_notice, all_less_notices, Ordered, due, due_all, due_push, due_first, ordered_push, ordered_later, ordered_less}
-use Rattle.tally.proofs.Facts.{met, between_is, length_numbered, today, someone, found, today_is, count_push, one_is_0, carried_stranger, today_traded}
+use Rattle.tally.proofs.Facts.{met, between_is, length_numbered, today, found, today_is, count_push, one_is_0, carried_stranger, today_traded}
 
 pub record Sound (c : Terms) (t : Tally) : Type 0 where
   pub balanced : Balanced t
@@ -41,7 +41,7 @@ pub record Sound (c : Terms) (t : Tally) : Type 0 where
 
 pub sound_begun : (c : Terms) → Sound c begun
 unfolding due prices net
-sound_begun c = grind (arith, none_in_lots, none_under_notice)
+sound_begun c = grind (arith, none_under_notice)
 
 module _ (c : Terms) (windows : c.delivers ≡ false → c.closes ≡ 0) (t : Tally) (h : Sound c t) where
   abbrev v : View
@@ -75,7 +75,7 @@ module _ (c : Terms) (windows : c.delivers ≡ false → c.closes ≡ 0) (t : Ta
       }
 
   pub registers : (k : ℕ) → leb 1 k && leb k (length v.accounts) ≡ true → Registered (length t.parties) k
-  registers k e = grind (arith, between_is, length_numbered)
+  registers k e = grind (arith, length_numbered)
 
   pub sound_trade : (w : Trade) → verdict c v (trading w) ≡ None → Sound c (entered t (trading w))
   unfolding entered questions
@@ -148,12 +148,12 @@ module _ (c : Terms) (windows : c.delivers ≡ false → c.closes ≡ 0) (t : Ta
         balanced = grind arith;
         sellers = All-push _ t.notices r h.sellers seller;
         holders = h.holders;
-        ordered = grind (arith, ordered_push, some);
+        ordered = grind (arith, ordered_push);
         lots_ordered = h.lots_ordered;
         started = h.started;
         lots_are = h.lots_are;
         due_short = λ k. grind (arith, due_push);
-        under_short = λ k. grind (arith, today, found, notices_push, eq-eqb, ne_eqb, cases_eq);
+        under_short = λ k. grind (arith, found, notices_push);
         mini = λ no. absurd (omega (arith, windows no, h.started, open_now.1));
       }
 
@@ -183,7 +183,7 @@ module _ (c : Terms) (windows : c.delivers ≡ false → c.closes ≡ 0) (t : Ta
 
   pub sound_expiry : (final room : ℕ) → verdict c v (expiring (Some final) room) ≡ None → Sound c (entered t (expiring (Some final) room))
   unfolding entered questions fed_expiry due
-  sound_expiry final room e = grind (arith, met, not-true, and_parts, balanced_expiry, none_in_lots, closed_carried, someone, due, none_under_notice)
+  sound_expiry final room e = grind (arith, met, balanced_expiry, none_in_lots, closed_carried, none_under_notice)
 
   -- the oldest notice, which is due, and the oldest lot
   module _ (x : Notice) (l : Lot) (xs : List Notice) (ls : List Lot) (nx : t.notices ≡ x ∷ xs) (lx : t.lots ≡ l ∷ ls) (is_due : x.session < t.session) where
@@ -206,15 +206,15 @@ module _ (c : Terms) (windows : c.delivers ≡ false → c.closes ≡ 0) (t : Ta
 
     pub first_due : (k : ℕ) → due t.session k (less_oldest_notices m t.notices) + i k ≡ due t.session k t.notices
     unfolding i
-    first_due k = grind (arith, some, due_first)
+    first_due k = grind (arith, due_first)
 
     pub first_notice : (k : ℕ) → under_notice k (less_oldest_notices m t.notices) + i k ≡ under_notice k t.notices
     unfolding i
-    first_notice k = grind (arith, some, notices_first)
+    first_notice k = grind (arith, notices_first)
 
     pub first_lot : (k : ℕ) → in_lots k (less_oldest_lots m t.lots) + j k ≡ in_lots k t.lots
     unfolding j
-    first_lot k = grind (arith, some, lots_first)
+    first_lot k = grind (arith, lots_first)
 
     pub carries : (k : ℕ) → up (carried next k) + (length (prices k t.sold) + j k) ≡ down (carried next k) + (length (prices k t.bought) + i k)
     unfolding next fed_designation i j
@@ -240,7 +240,7 @@ module _ (c : Terms) (windows : c.delivers ≡ false → c.closes ≡ 0) (t : Ta
       ordered = grind (arith, ordered_less);
       lots_ordered = order_less_oldest t.session m t.lots h.lots_ordered;
       started = h.started;
-      lots_are = λ k r. grind (arith, first_lot, carries, net_is, one_is_0, sides);
+      lots_are = λ k r. grind (arith, first_lot, carries, net_is, sides);
       due_short = λ k. omega (arith, h.due_short k, first_due k, carries k, net_is (prices k t.bought) (prices k t.sold), one_is_0 (carried t k), one_is_0 (carried next k));
       under_short = λ k. omega (arith, h.under_short k, first_notice k, nets k, today_is t k, one_is_0 (today t k), one_is_0 (today next k));
       mini = λ no. grind arith;

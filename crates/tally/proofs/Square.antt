@@ -26,7 +26,7 @@ module _ (c : Terms) (t : Tally) where
 
   -- ---- marking
   both : (price k : ℕ) → (net (prices k (t.bought ++ buys t.waiting)) (prices k (t.sold ++ sells t.waiting)) ≡ net (prices k t.bought ++ prices k (buys t.waiting)) (prices k t.sold ++ prices k (sells t.waiting))) × (position size price (prices k (t.bought ++ buys t.waiting)) (prices k (t.sold ++ sells t.waiting)) ≡ position size price (prices k t.bought ++ prices k (buys t.waiting)) (prices k t.sold ++ prices k (sells t.waiting)))
-  both price k = grind (arith, prices_append, two)
+  both price k = grind (arith, prices_append)
 
   pub net_marked : (price k : ℕ) (p : Registration) → net_of (account size t k p) ≡ net (prices k (t.bought ++ buys t.waiting)) (prices k (t.sold ++ sells t.waiting))
   unfolding account

@@ -46,7 +46,7 @@ no_marking x e = grind arith
 
 module _ (xs : List Entry) (x : Entry) where
   pub markings_same : marked_by x ≡ None → markings (xs ++ x ∷ []) ≡ markings xs
-  markings_same e = grind (arith, markings_push, no_marking)
+  markings_same e = grind (arith, markings_push)
 
   pub last_same : (f : Marking → ℕ) → marked_by x ≡ None → last_marked f 0 (xs ++ x ∷ []) ≡ last_marked f 0 xs
   last_same f e = grind (arith, last_push)

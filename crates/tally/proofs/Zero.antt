@@ -22,12 +22,12 @@ share f k (p ∷ ps) = cond (eqb p.holder k) (f p) 0 + share f k ps
 prices_count : (k : ℕ) (ps : List Posting) → length (prices k ps) ≡ share contracts k ps
 unfolding prices share
 prices_count k [] = refl
-prices_count k (p ∷ ps) = grind (arith, contracts, length-append, length-replicate, prices_count k ps)
+prices_count k (p ∷ ps) = grind (arith, length-append, length-replicate, prices_count k ps)
 
 prices_value : (k : ℕ) (ps : List Posting) → sum (prices k ps) ≡ share worth_of k ps
 unfolding prices share
 prices_value k [] = refl
-prices_value k (p ∷ ps) = grind (arith, contracts, worth_of, sum_by-append, sum_replicate, prices_value k ps)
+prices_value k (p ∷ ps) = grind (arith, sum_by-append, sum_replicate, prices_value k ps)
 
 module _ {X : Type 0} where
   -- g of each number, summed

@@ -1,15 +1,14 @@
 // Registering an account: its questions, and its row.
 ghost use Rattle.std.specs.Prelude.{◌≡◌, ◌+◌, ◌≤◌, Bool, false, length, is_ok, None, nat_le, nat_lt};
-ghost use Rattle.std.specs.Str.{bytes_eq};
 ghost use Rattle.tally.specs.Events.{registering};
-ghost use Rattle.tally.specs.Questions.{verdict, is_name_byte, all_name_bytes, is_name, is_new, same_identity};
+ghost use Rattle.tally.specs.Questions.{verdict, is_name_byte, all_name_bytes, is_name, is_new};
 ghost use Rattle.tally.specs.Runs.{after, reply};
 ghost use Rattle.tally.specs.Steps.{register};
 ghost use Rattle.ledger.specs.Ledgers.{view, terms_of};
 ghost use Rattle.ledger.specs.Told.{judged, told};
 ghost use Rattle.tally.specs.declared.call.Reply.TheVariants.{Numbered};
 
-use crate::state::Ledger;
+use crate::state::{ACCOUNTS, Ledger};
 use tally::call::Registration;
 use tally::refusal::Refusal;
 use tally::rows::{Account, Identity};
@@ -18,19 +17,14 @@ use tally::rows::{Account, Identity};
 fn is_name_byte(b: u8) -> bool
     ensures { result ≡ is_name_byte b }
 {
-    (b >= b'A' && b <= b'Z') || (b >= b'0' && b <= b'9')
+    b.is_ascii_uppercase() || b.is_ascii_digit()
 }
 
 // Whether all bytes are capital letters or digits.
 fn are_name_bytes(bytes: &[u8]) -> bool
     ensures { result ≡ all_name_bytes bytes.now }
 {
-    for b in bytes {
-        if !is_name_byte(*b) {
-            return false;
-        }
-    }
-    true
+    bytes.iter().all(|b| is_name_byte(*b))
 }
 
 // Whether an identity is made of capital letters and digits.
@@ -42,32 +36,11 @@ fn is_named(identity: &Identity) -> bool
         && are_name_bytes(&identity.member)
 }
 
-// Whether two rows of bytes are one.
-fn are_same(a: &[u8], b: &[u8]) -> bool
-    ensures { result ≡ bytes_eq a.now b.now }
-{
-    a == b
-}
-
-// Whether two identities are one.
-fn is_same(a: &Identity, b: &Identity) -> bool
-    ensures { result ≡ same_identity a.now b.now }
-{
-    are_same(&a.customer, &b.customer)
-        && are_same(&a.house, &b.house)
-        && are_same(&a.member, &b.member)
-}
-
 // Whether no account has the identity.
 fn is_new(identity: &Identity, accounts: &[Account]) -> bool
     ensures { result ≡ is_new identity.now accounts.now }
 {
-    for account in accounts {
-        if is_same(identity, &account.identity) {
-            return false;
-        }
-    }
-    true
+    accounts.iter().all(|account| *identity != account.identity)
 }
 
 impl Ledger {
@@ -80,16 +53,17 @@ impl Ledger {
     fn has_account_room(&self) -> bool
         ensures { result ≡ nat_lt (length (view self.now).accounts) 64 }
     {
-        self.registered < 64
+        self.accounts.len() < ACCOUNTS
     }
 
     fn has_new_identity(&self, identity: &Identity) -> bool
         ensures { result ≡ is_new identity.now (view self.now).accounts }
     {
-        is_new(identity, &self.accounts[0..self.registered])
+        is_new(identity, self.accounts.as_slice())
     }
 
     // Why an account is not registered, if it is not.
+    #[tactic(auto, unfolding(tally::specs::Questions::questions, tally::specs::Questions::first_unmet))]
     fn register_verdict(&self, registration: Registration) -> Result<(), Refusal>
         ensures { result ≡ judged (verdict (terms_of self.now) (view self.now) (registering registration)) }
     {
@@ -114,16 +88,11 @@ impl Ledger {
         ensures view { view self.new ≡ register (view self.old) registration }
         ensures terms { self.new.terms ≡ self.old.terms }
     {
-        let account = Account {
+        self.accounts.push(Account {
             identity: registration.identity,
             residency: registration.residency,
-            carried: 0,
-            bought: 0,
-            sold: 0,
-            total: 0,
-        };
-        self.accounts[self.registered] = account;
-        self.registered += 1;
+            ..Account::default()
+        });
     }
 
     // Registers an account, and answers its number.
@@ -135,6 +104,6 @@ impl Ledger {
     {
         self.register_verdict(registration)?;
         self.enroll(registration);
-        Ok(self.registered)
+        Ok(self.accounts.len())
     }
 }

@@ -7,7 +7,7 @@ ghost use Rattle.tally.specs.Questions.{is_due, nobody, verdict};
 ghost use Rattle.tally.specs.Runs.{after, designation_of, reply};
 ghost use Rattle.tally.specs.Steps.{designate_oldest, designated_account, paired as paired_of};
 ghost use Rattle.tally.specs.declared.call.Reply.TheVariants.{Designated};
-ghost use Rattle.ledger.specs.Designations.{less_long, less_short};
+ghost use Rattle.ledger.specs.Designations.{carrying};
 ghost use Rattle.ledger.specs.Ledgers.{view, terms_of};
 ghost use Rattle.ledger.specs.Told.{judged, told};
 
@@ -22,23 +22,15 @@ fn paired(notice: Notice, lot: Lot) -> u32
     notice.count.min(lot.count)
 }
 
-// The seller has delivered: it is so many contracts less short.
-fn cover(account: &mut Account, contracts: u32)
-    requires { (unsigned_abs account.old.carried ≤ 3000) × (contracts ≤ 3000) }
-    ensures { account.new ≡ less_short account.old contracts }
+// Adds signed contracts to those that an account carries.
+fn carry(account: &mut Account, contracts: i64)
+    requires { (unsigned_abs account.old.carried ≤ 6000) × (unsigned_abs contracts ≤ 3000) }
+    ensures { account.new ≡ carrying account.old contracts }
 {
-    account.carried += i64::from(contracts);
+    account.carried += contracts;
 }
 
-// The owner has taken delivery: it is so many contracts less long.
-fn close(account: &mut Account, contracts: u32)
-    requires { (unsigned_abs account.old.carried ≤ 6000) × (contracts ≤ 3000) }
-    ensures { account.new ≡ less_long account.old contracts }
-{
-    account.carried -= i64::from(contracts);
-}
-
-// Takes what a notice and a lot have both off the positions of their accounts.
+// Takes what a notice and a lot have both off the positions of their accounts: the seller is less short, the owner less long.
 fn deliver(accounts: &mut [Account], notice: Notice, lot: Lot)
     requires seller { Registered (length accounts.old) notice.seller }
     requires owner { Registered (length accounts.old) lot.owner }
@@ -47,9 +39,9 @@ fn deliver(accounts: &mut [Account], notice: Notice, lot: Lot)
     requires few { notice.count ≤ 3000 }
     ensures { accounts.new ≡ numbered (designated_account notice lot) 1 accounts.old }
 {
-    let contracts = paired(notice, lot);
-    cover(&mut accounts[notice.seller - 1], contracts);
-    close(&mut accounts[lot.owner - 1], contracts);
+    let contracts = i64::from(paired(notice, lot));
+    carry(&mut accounts[notice.seller - 1], contracts);
+    carry(&mut accounts[lot.owner - 1], -contracts);
 }
 
 impl Ledger {
@@ -57,13 +49,13 @@ impl Ledger {
     pub(crate) fn has_due_notice(&self) -> bool
         ensures { result ≡ is_due (view self.now).session (view self.now).notices }
     {
-        match aged::oldest(&self.notices, self.notices_used) {
-            Some(notice) => notice.session < self.session,
-            None => false,
-        }
+        self.notices
+            .oldest()
+            .is_some_and(|notice| notice.session < self.session)
     }
 
     // Why there is no designation, if there is none.
+    #[tactic(auto, unfolding(tally::specs::Questions::questions, tally::specs::Questions::first_unmet))]
     fn designation_verdict(&self) -> Result<(), Refusal>
         ensures { result ≡ judged (verdict (terms_of self.now) (view self.now) designating) }
     {
@@ -80,12 +72,12 @@ impl Ledger {
         ensures view { view self.new ≡ designate_oldest (view self.old) (view self.old).notices (view self.old).lots }
         ensures terms { self.new.terms ≡ self.old.terms }
     {
-        let notice = aged::oldest(&self.notices, self.notices_used).unwrap();
-        let lot = aged::oldest(&self.lots, self.lots_used).unwrap();
+        let notice = self.notices.oldest().unwrap();
+        let lot = self.lots.oldest().unwrap();
         let contracts = paired(notice, lot);
-        deliver(&mut self.accounts, notice, lot);
-        let _ = aged::take_oldest(&mut self.notices, &mut self.notices_used, contracts);
-        let _ = aged::take_oldest(&mut self.lots, &mut self.lots_used, contracts);
+        deliver(self.accounts.as_mut_slice(), notice, lot);
+        self.notices.take_oldest(contracts);
+        self.lots.take_oldest(contracts);
         Designation {
             buyer: lot.owner,
             seller: notice.seller,

@@ -1,5 +1,5 @@
 // Expiry: its questions, and the page that pays what is carried at the final price.
-ghost use Rattle.std.specs.Prelude.{◌≡◌, ◌+◌, Bool, false, not, ◌&&◌, length, is_ok, Some, None, ◌==◌};
+ghost use Rattle.std.specs.Prelude.{◌≡◌, ◌+◌, Bool, false, not, ◌&&◌, length, is_ok, Some, None, ◌==◌, IfOk, MatchResult};
 ghost use Rattle.kinds.specs.Meaning.{cents_of};
 ghost use Rattle.tally.specs.Events.{expiring};
 ghost use Rattle.tally.specs.Pages.{by_expiry, page as page_of, roll};
@@ -8,7 +8,7 @@ ghost use Rattle.tally.specs.Runs.{after, reply, written};
 ghost use Rattle.tally.specs.Steps.{expire};
 ghost use Rattle.tally.specs.declared.call.Reply.TheVariants.{Paid};
 ghost use Rattle.ledger.specs.Ledgers.{view, terms_of};
-ghost use Rattle.ledger.specs.Told.{judged, over, told};
+ghost use Rattle.ledger.specs.Told.{over, told};
 
 use crate::owed::Settling;
 use crate::settled::settle_accounts;
@@ -26,19 +26,19 @@ impl Ledger {
     }
 
     // Why the contract does not expire, if it does not.
-    fn expiry_verdict(&self, final_price: Option<Price>, rows: usize) -> Result<(), Refusal>
-        ensures { result ≡ judged (verdict (terms_of self.now) (view self.now) (expiring (cents_of final_price) rows)) }
+    #[tactic(auto, unfolding(tally::specs::Questions::questions, tally::specs::Questions::first_unmet))]
+    fn expiry_verdict(&self, final_price: Option<Price>, rows: usize) -> Result<Price, Refusal>
+        ensures verdict { MatchResult result (λ _. verdict (terms_of self.now) (view self.now) (expiring (cents_of final_price) rows) ≡ None) (λ e. verdict (terms_of self.now) (view self.now) (expiring (cents_of final_price) rows) ≡ Some e) }
+        ensures read { IfOk result (λ price. final_price ≡ Some price) }
     {
         if !self.is_expiring() {
             return Err(Refusal::NotExpiring);
         }
-        if final_price.is_none() {
-            return Err(Refusal::NoFinalPrice);
-        }
+        let price = final_price.ok_or(Refusal::NoFinalPrice)?;
         if !self.fits_page(rows) {
             return Err(Refusal::PageShort);
         }
-        Ok(())
+        Ok(price)
     }
 
     // Writes an expiry that meets its questions: the page is paid at the last marking's rate, and nothing is carried or held in lots any more.
@@ -51,13 +51,13 @@ impl Ledger {
     {
         let rate = Rate::new(u64::from(self.rate)).unwrap();
         let owed = self.owed(Settling::Expiry, price);
-        let sums = self.pay(&owed[0..self.registered], rate, page);
+        let sums = self.pay(owed.as_slice(), rate, page);
         settle_accounts(
-            &mut self.accounts,
-            &owed[0..self.registered],
+            self.accounts.as_mut_slice(),
+            owed.as_slice(),
             Settling::Expiry,
         );
-        aged::clear(&mut self.lots_used);
+        self.lots.clear();
         self.expired = true;
         sums
     }
@@ -74,7 +74,7 @@ impl Ledger {
         ensures page { page.new ≡ over (written (terms_of self.old) (view self.old) (expiring (cents_of final_price) (length page.old))) page.old }
         ensures same { is_ok result ≡ false → self.new ≡ self.old }
     {
-        self.expiry_verdict(final_price, page.len())?;
-        Ok(self.expire_at(final_price.unwrap(), page))
+        let price = self.expiry_verdict(final_price, page.len())?;
+        Ok(self.expire_at(price, page))
     }
 }

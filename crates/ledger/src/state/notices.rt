@@ -1,15 +1,16 @@
 // Giving notice of delivery: its questions, and its row.
-ghost use Rattle.std.specs.Prelude.{◌≡◌, ℕ, ◌+◌, ◌≤◌, Bool, true, false, length, is_ok, None, nat_le, nat_lt, unsigned_abs};
+ghost use Rattle.std.specs.Prelude.{◌≡◌, ℕ, ◌+◌, ◌≤◌, Bool, true, false, length, is_ok, None, nat_le, nat_lt};
 ghost use Rattle.tally.specs.Account.{short};
 ghost use Rattle.tally.specs.Questions.{between, find, net_of, registered as is_registered, under_notice as noticed_by};
 ghost use Rattle.tally.specs.Events.{noticing};
 ghost use Rattle.tally.specs.Questions.{verdict};
 ghost use Rattle.tally.specs.Runs.{after, reply};
 ghost use Rattle.tally.specs.Steps.{notice};
+ghost use Rattle.ledger.specs.Limits.{InLimits};
 ghost use Rattle.ledger.specs.Ledgers.{view, terms_of};
 ghost use Rattle.ledger.specs.Told.{judged, plainly, told};
 
-use crate::state::Ledger;
+use crate::state::{Ledger, MAX_CONTRACTS, NOTICE_ROWS};
 use tally::call::Notification;
 use tally::refusal::Refusal;
 use tally::rows::{Account, Notice};
@@ -18,12 +19,12 @@ use tally::rows::{Account, Notice};
 pub(crate) fn is_counted(contracts: u64) -> bool
     ensures { result ≡ between 1 3000 contracts }
 {
-    contracts >= 1 && contracts <= 3_000
+    (1..=MAX_CONTRACTS).contains(&contracts)
 }
 
 // Carried plus bought minus sold in the open session.
 pub(crate) fn net(account: Account) -> i64
-    requires { (unsigned_abs account.carried ≤ 3000) × (account.bought ≤ 3000) × (account.sold ≤ 3000) }
+    requires { InLimits account }
     ensures { result ≡ net_of account }
 {
     account.carried + i64::from(account.bought) - i64::from(account.sold)
@@ -44,20 +45,19 @@ impl Ledger {
     pub(crate) fn is_registered(&self, number: usize) -> bool
         ensures { result ≡ is_registered (view self.now) number }
     {
-        number >= 1 && number <= self.registered
+        (1..=self.accounts.len()).contains(&number)
     }
 
     fn is_in_window(&self) -> bool
         ensures { result ≡ between (terms_of self.now).opens (terms_of self.now).closes (view self.now).session }
     {
-        let session = u64::from(self.session);
-        self.terms.opens <= session && session <= self.terms.closes
+        (self.terms.opens..=self.terms.closes).contains(&u64::from(self.session))
     }
 
     fn has_notice_room(&self) -> bool
         ensures { result ≡ nat_lt (length (view self.now).notices) 64 }
     {
-        self.notices_used < 64
+        self.notices.as_slice().len() < NOTICE_ROWS
     }
 
     // The row of an account.
@@ -69,10 +69,11 @@ impl Ledger {
     }
 
     // What an account has under notice, due or not.
+    #[tactic(auto, unfolding(tally::specs::Questions::under_notice))]
     pub(crate) fn under_notice(&self, number: usize) -> u128
         ensures { result ≡ noticed_by number (view self.now).notices }
     {
-        aged::held_by(&self.notices, self.notices_used, number)
+        self.notices.held_by(number)
     }
 
     // The net of an account.
@@ -94,6 +95,7 @@ impl Ledger {
     }
 
     // Why a notice is not taken, if it is not.
+    #[tactic(auto, unfolding(tally::specs::Questions::questions, tally::specs::Questions::first_unmet))]
     fn notice_verdict(&self, notification: Notification) -> Result<(), Refusal>
         ensures { result ≡ judged (verdict (terms_of self.now) (view self.now) (noticing notification)) }
     {
@@ -129,7 +131,7 @@ impl Ledger {
             session: self.session,
             count: notification.contracts as u32,
         };
-        let _ = aged::append(&mut self.notices, &mut self.notices_used, row);
+        let _ = self.notices.append(row);
     }
 
     // Takes a seller's notice of delivery.

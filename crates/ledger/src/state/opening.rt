@@ -7,32 +7,15 @@ ghost use Rattle.ledger.specs.Ledgers.{view, terms_in, can_open};
 ghost use Rattle.tally.specs.declared.refusal.Refusal.TheVariants.{Unbuildable};
 
 use crate::state::{BookTerms, Ledger};
-use money::currency::Residency;
+use aged::Line;
+use arrayvec::ArrayVec;
 use tally::refusal::Refusal;
-use tally::rows::{Account, Identity, Lot, Notice, Trade};
 
 // No contract is listed for longer than a year of sessions.
 const MAX_SESSIONS: u64 = 260;
 
 // The largest size of a contract, in units.
 const MAX_SIZE: u32 = 100;
-
-// A row that no account has: what stands behind the last of a table.
-fn no_account() -> Account {
-    let identity = Identity {
-        customer: [0; 8],
-        house: [0; 3],
-        member: [0; 3],
-    };
-    Account {
-        identity,
-        residency: Residency::Resident,
-        carried: 0,
-        bought: 0,
-        sold: 0,
-        total: 0,
-    }
-}
 
 // Whether the notice window suits the contract: inside the sessions before the last where it delivers, and none where it does not.
 fn has_window(terms: &BookTerms) -> bool
@@ -46,17 +29,18 @@ fn has_window(terms: &BookTerms) -> bool
 }
 
 // Whether the book has sessions, as many as it may, and its window.
+#[tactic(auto, unfolding(tally::specs::Questions::is_buildable))]
 pub fn is_buildable(terms: &BookTerms) -> bool
     ensures { result ≡ is_buildable (terms_in terms.now) }
 {
-    terms.last >= 1 && terms.last <= MAX_SESSIONS && has_window(terms)
+    (1..=MAX_SESSIONS).contains(&terms.last) && has_window(terms)
 }
 
 // Whether size and tick are those of a kind.
 fn is_of_kind(terms: &BookTerms) -> bool
     ensures { result ≡ (between 1 100 terms.now.size && nat_le 1 terms.now.tick) }
 {
-    terms.size >= 1 && terms.size <= MAX_SIZE && terms.tick >= 1
+    (1..=MAX_SIZE).contains(&terms.size) && terms.tick >= 1
 }
 
 impl Ledger {
@@ -69,27 +53,10 @@ impl Ledger {
     {
         Ledger {
             terms,
-            accounts: [no_account(); 64],
-            registered: 0,
-            sheet: [Trade {
-                buyer: 0,
-                seller: 0,
-                price: 0,
-                contracts: 0,
-            }; 1024],
-            written: 0,
-            lots: [Lot {
-                owner: 0,
-                session: 0,
-                count: 0,
-            }; 1024],
-            lots_used: 0,
-            notices: [Notice {
-                seller: 0,
-                session: 0,
-                count: 0,
-            }; 64],
-            notices_used: 0,
+            accounts: ArrayVec::new(),
+            sheet: ArrayVec::new(),
+            lots: Line::new(),
+            notices: Line::new(),
             session: 1,
             price: 0,
             rate: 0,

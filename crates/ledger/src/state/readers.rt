@@ -17,28 +17,28 @@ impl Ledger {
     pub fn accounts(&self) -> &[Account]
         ensures { result.now ≡ (view self.now).accounts }
     {
-        &self.accounts[0..self.registered]
+        self.accounts.as_slice()
     }
 
     // The trades of the open session.
     pub fn sheet(&self) -> &[Trade]
         ensures { result.now ≡ (view self.now).sheet }
     {
-        &self.sheet[0..self.written]
+        self.sheet.as_slice()
     }
 
     // The lots, oldest first.
     pub fn lots(&self) -> &[Lot]
         ensures { result.now ≡ (view self.now).lots }
     {
-        &self.lots[0..self.lots_used]
+        self.lots.as_slice()
     }
 
     // The notices, oldest first.
     pub fn notices(&self) -> &[Notice]
         ensures { result.now ≡ (view self.now).notices }
     {
-        &self.notices[0..self.notices_used]
+        self.notices.as_slice()
     }
 
     // The open session's number.

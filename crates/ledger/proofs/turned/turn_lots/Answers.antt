@@ -1,20 +1,20 @@
-use Rattle.std.proofs.Common.{◌≤◌, get_or, take, nat_abs, ap, ◌∙◌, arith}
+use Rattle.std.proofs.Common.{◌≤◌, get_or, nat_abs, ap, ◌∙◌, arith}
 use Rattle.std.proofs.ByRecursion.{All-get_or}
 use Rattle.tally.specs.Questions.{nobody}
-use Rattle.ledger.specs.Owings.{ContractsIn}
+use Rattle.ledger.specs.Limits.{InLimits}
 use Rattle.ledger.proofs.Paying.{read_signed}
 use Rattle.ledger.proofs.Turning.{net_in, opens_next, turned_next, turned_all}
 use Rattle.ledger.proofs.turned.turn_lots.Goals as goal
 
 pub net-requires : goal.net-requires
-net-requires c = All-get_or ContractsIn c.args.accounts.now c.loop-i.i nobody c.loop-i-test.true c.requires.contracts
+net-requires c = All-get_or InLimits c.args.accounts.now c.loop-i.i nobody c.loop-i-test.true c.requires.contracts
 
 pub turn_account-requires : goal.turn_account-requires
 turn_account-requires c =
     let xs = c.args.accounts.now in
     let i = c.loop-i.i in
     let a = get_or xs i nobody in
-    let k = All-get_or ContractsIn xs i nobody c.loop-i-test.true c.requires.contracts in
+    let k = All-get_or InLimits xs i nobody c.loop-i-test.true c.requires.contracts in
     let carried = read_signed a.carried 3000 k.0 (omega arith) in
     let small : nat_abs c.net.result ≤ 9000 = net_in a c.net.ensures k in
     let left = read_signed c.net.result 9000 small (omega arith) in
@@ -26,17 +26,14 @@ loop-i-preserved c =
     let xs = c.args.accounts.now in
     let i = c.loop-i.i in
     let a = get_or xs i nobody in
-    let k = All-get_or ContractsIn xs i nobody c.loop-i-test.true c.requires.contracts in
+    let k = All-get_or InLimits xs i nobody c.loop-i-test.true c.requires.contracts in
     let carried = read_signed a.carried 3000 k.0 (omega arith) in
     let small : nat_abs c.net.result ≤ 9000 = net_in a c.net.ensures k in
     let left = read_signed c.net.result 9000 small (omega arith) in
     let next = opens_next xs i nobody c.loop-i-test.true carried (left ∙ c.net.ensures) in (
-      turned_next xs i nobody c.loop-i-test.true c.args.session (take c.loop-i.used c.loop-i.lots) carried (left ∙ c.net.ensures) c.turn_account.ensures.lots ∙ c.loop-i.invariant.0,
-      omega (arith, next, c.loop-i.invariant.1, c.turn_account.ensures.used),
+      turned_next xs i nobody c.loop-i-test.true c.args.session c.loop-i.lots carried (left ∙ c.net.ensures) c.turn_account.ensures.lots ∙ c.loop-i.invariant.0,
+      omega (arith, next, c.loop-i.invariant.1, c.turn_account.ensures.grown),
     )
 
 pub returns : goal.returns
-returns c = record {
-  lots = turned_all c.args.session c.loop-i.i c.args.accounts.now (take c.loop-i.used c.loop-i.lots) c.loop-i-test.false ∙ c.loop-i.invariant.0;
-  used = omega (arith, c.loop-i.invariant.1);
-}
+returns c = turned_all c.args.session c.loop-i.i c.args.accounts.now c.loop-i.lots c.loop-i-test.false ∙ c.loop-i.invariant.0

@@ -1,27 +1,33 @@
-use Rattle.std.proofs.Common.{sym, refl, ◌∙◌, subst, arith}
-use mathlib.Core.Logic.{∥∥₁_map}
-use Rattle.std.proofs.lemmas.List.{length-set}
-use Rattle.tally.specs.Book.{View}
+use Rattle.std.proofs.Common.{◌≡◌, List, [], ◌∷◌, ◌++◌, length, ap, ◌∙◌, arith}
+use Rattle.std.proofs.lemmas.Bool.{ltb-true}
 use Rattle.tally.specs.Events.{registering}
+use Rattle.tally.specs.Questions.{questions}
 use Rattle.tally.specs.Steps.{done, new_account}
+use Rattle.tally.proofs.Facts.{met}
 use Rattle.ledger.specs.Ledgers.{view, terms_of}
-use Rattle.ledger.specs.Reached.{Reached}
-use Rattle.ledger.proofs.Enrolling.{has_room, enrolled}
-use Rattle.ledger.proofs.Reaching.{reach}
+use Rattle.tally.specs.declared.rows.Account.{Account}
+use Rattle.ledger.specs.Reached.{viewed}
+use Rattle.ledger.proofs.Reaching.{goes_on}
 use Rattle.ledger.proofs.state.Ledger.enroll.Goals as goal
 
-pub bounds-self-self : goal.bounds-self-self
-bounds-self-self c = has_room c.args.self.now c.args.registration c.requires
+pub push-requires : goal.push-requires
+unfolding questions
+push-requires c = (omega arith, ltb-true (length (view c.args.self.now).accounts) 64 (met _ _ (met _ _ c.requires).1).0)
+
+-- The account is appended.
+enrolled : (c : goal.After-push) → c.push.new.self.items ≡ c.args.self.now.accounts.items ++ new_account c.args.registration ∷ []
+enrolled c =
+    let rest = c.default.ensures.1.1 in
+    c.push.ensures.items ∙ ap (λ a. c.args.self.now.accounts.items ++ a ∷ []) (rw (rest.0, rest.1.0, rest.1.1.0, rest.1.1.1))
 
 pub invariant_of-self : goal.invariant_of-self
 unfolding done
 invariant_of-self c =
     let l = c.args.self.now in
-    let r = c.args.registration in
-    let room = has_room l r c.requires in record {
-      tables = ((length-set l.accounts l.registered (new_account r) ∙ l.tables.0.0, omega arith), l.tables.1, l.tables.2, l.tables.3);
-      reached = ∥∥₁_map l.reached (λ (x : Reached (terms_of l) (view l)). subst (λ (v : View). Reached (terms_of l) v) (sym (enrolled l r room)) (reach (terms_of l) (view l) (registering r) tt c.requires x));
-    }
+    let e = ap (λ (xs : List Account). viewed xs l.sheet.items l.lots l.notices l.session l.price l.rate l.expired) (enrolled c) in
+    record { reached = goes_on (terms_of l) (view l) (registering c.args.registration) tt c.requires e l.reached }
 
-pub returns : goal.returns
-returns c = record { view = enrolled c.args.self.now c.args.registration (has_room c.args.self.now c.args.registration c.requires); terms = refl }
+pub returns-clause-view : goal.returns-clause-view
+returns-clause-view c =
+    let l = c.args.self.now in
+    ap (λ (xs : List Account). viewed xs l.sheet.items l.lots l.notices l.session l.price l.rate l.expired) (enrolled c.before)

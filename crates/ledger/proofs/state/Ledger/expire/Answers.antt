@@ -8,27 +8,24 @@ use Rattle.tally.specs.Runs.{after, reply, written}
 use Rattle.tally.specs.Steps.{done}
 use Rattle.ledger.specs.Ledgers.{view, terms_of}
 use Rattle.ledger.specs.Told.{over}
-use Rattle.ledger.proofs.Closing.{final_there}
-use Rattle.ledger.proofs.Reaching.{accepted, passed, replied, wrote}
+use Rattle.ledger.proofs.Reaching.{accepted, replied, wrote}
 use Rattle.ledger.proofs.state.Ledger.expire.Goals as goal
-
-pub unwrap-requires : goal.unwrap-requires
-unwrap-requires c = final_there c.args.self.now c.args.final_price _ (passed _ c.in_ok-expiry_verdict.ensures)
 
 pub expire_at-requires : goal.expire_at-requires
 expire_at-requires c =
     let l = c.args.self.now in
-    ap (λ o. verdict (terms_of l) (view l) (expiring (cents_of o) (length c.args.page.now))) (sym c.unwrap.ensures) ∙ passed _ c.in_ok-expiry_verdict.ensures
+    let h = c.in_ok-price.ensures in
+    ap (λ o. verdict (terms_of l) (view l) (expiring (cents_of o) (length c.args.page.now))) (sym h.read) ∙ h.verdict
 
 pub returns : goal.returns
 unfolding done
 returns c =
     let l = c.args.self.now in
     let rows = length c.args.page.now in
-    let there = c.unwrap.ensures in
-    let e = expiring (Some c.unwrap.result.number) rows in
-    let same = ap (λ o. expiring (cents_of o) rows) (sym there) in
-    let none : verdict (terms_of l) (view l) e ≡ None = ap (verdict (terms_of l) (view l)) same ∙ passed _ c.in_ok-expiry_verdict.ensures in
+    let h = c.in_ok-price.ensures in
+    let e = expiring (Some c.in_ok-price.price.number) rows in
+    let same = ap (λ o. expiring (cents_of o) rows) (sym h.read) in
+    let none : verdict (terms_of l) (view l) e ≡ None = ap (verdict (terms_of l) (view l)) same ∙ h.verdict in
     record {
       answers = ap (λ s. Ok (Paid s)) c.expire_at.ensures.sums ∙ sym (replied (terms_of l) (view l) e none) ∙ ap (reply (terms_of l) (view l)) same;
       after = c.expire_at.ensures.view ∙ sym (accepted (terms_of l) (view l) e none) ∙ ap (after (terms_of l) (view l)) same;

@@ -1,39 +1,17 @@
-use Rattle.std.proofs.Common.{ℕ, ◌+◌, ◌<◌, List, length, get_or, sym, ap, ◌∙◌, subst, arith}
-use Rattle.std.specs.List.{AllByRecursion}
-use Rattle.std.proofs.lemmas.List.{length-take}
-use Rattle.tally.specs.declared.rows.Account.{Account}
-use Rattle.tally.specs.declared.rows.Trade.{Trade}
-use Rattle.tally.specs.Questions.{nobody}
-use Rattle.ledger.specs.Ledgers.{view}
-use Rattle.ledger.specs.Owings.{ContractsIn, Dealt, OwedIn}
-use Rattle.ledger.specs.Sheets.{Traded}
-use Rattle.ledger.proofs.Closing.{owed_is, price_is}
-use Rattle.ledger.proofs.Enrolling.{registered_is}
-use Rattle.ledger.proofs.Standing.{contracts_in, dealt, owed_fits, price_in, sheet_traded, size_in}
+use Rattle.ledger.proofs.Closing.{price_is}
+use Rattle.ledger.proofs.Standing.{few_accounts, owable, price_in, sheet_priced, size_in}
 use Rattle.ledger.proofs.state.Ledger.owed.Goals as goal
+
+pub invariant_of-valuation : goal.invariant_of-valuation
+invariant_of-valuation c = record { sized = size_in c.args.self.now; priced = price_in c.args.self.now }
+
+pub invariant_of-sheet : goal.invariant_of-sheet
+invariant_of-sheet c = record { priced = rw c.sheet.ensures (sheet_priced c.args.self.now) }
 
 pub owed_to_all-requires : goal.owed_to_all-requires
 owed_to_all-requires c =
     let l = c.args.self.now in
-    let xs = c.accounts.ensures in
-    let ts = c.sheet.ensures in
-    record {
-      few = omega (arith, ap length xs, registered_is l, l.tables.0.1);
-      short = omega (arith, ap length ts, length-take l.written l.sheet, l.tables.1.1);
-      traded = subst (AllByRecursion Traded) (sym ts) (sheet_traded l);
-      contracts = subst (AllByRecursion ContractsIn) (sym xs) (contracts_in l);
-      dealt = subst (λ (ys : List Account). (i : ℕ) → i < length ys → Dealt c.sheet.result.now (i + 1) (get_or ys i nobody)) (sym xs)
-          (subst (λ (ws : List Trade). (i : ℕ) → i < length (view l).accounts → Dealt ws (i + 1) (get_or (view l).accounts i nobody)) (sym ts) (dealt l));
-      size = size_in l;
-      prices = (omega (arith, c.from-2.ensures, c.cents.ensures.within.1), omega (arith, c.from.ensures, price_in l));
-    }
+    rw (c.accounts.ensures, c.sheet.ensures) (record { few = few_accounts l; owable = owable l c.args.settling c.args.price.number (price_is _ c.args.price.within) })
 
 pub returns : goal.returns
-returns c =
-    let l = c.args.self.now in
-    let is = owed_is l c.args.settling c.args.price.number c.owed_to_all.result c.accounts.ensures c.sheet.ensures c.from.ensures (c.from-2.ensures ∙ c.cents.ensures.value) c.owed_to_all.ensures.owed in
-    record {
-      long = c.owed_to_all.ensures.long;
-      owed = is;
-      within = subst (AllByRecursion OwedIn) (sym is) (owed_fits l c.args.settling c.args.price.number (price_is _ c.args.price.within));
-    }
+returns c = rw (c.owed_to_all.ensures, c.accounts.ensures, c.sheet.ensures)

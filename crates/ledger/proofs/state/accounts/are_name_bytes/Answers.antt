@@ -1,11 +1,12 @@
-use Rattle.ledger.proofs.Names.{name_stops, name_goes, name_ends}
+use Rattle.std.proofs.Common.{◌&&◌, rules, refl, ◌∙◌}
+use Rattle.std.specs.List.{list_all}
+use Rattle.std.proofs.lemmas.Iterator.{YieldsList-from_slice}
+use Rattle.std.proofs.lemmas.Iterator.Search.{all_from_yields_List}
+use Rattle.std.proofs.lemmas.List.Recursion.{same_from_clauses}
+use Rattle.tally.specs.Questions.{is_name_byte, all_name_bytes}
 use Rattle.ledger.proofs.state.accounts.are_name_bytes.Goals as goal
 
-pub loop-b-preserved : goal.loop-b-preserved
-loop-b-preserved c = name_goes c.args.bytes.now c.loop-b.b-index c.loop-b-test.true c.if-not-is_name_byte.ensures c.loop-b.invariant
-
-pub returns-then-not-is_name_byte : goal.returns-then-not-is_name_byte
-returns-then-not-is_name_byte c = name_stops c.args.bytes.now c.loop-b.b-index c.loop-b-test.true c.if-not-is_name_byte.ensures c.loop-b.invariant
-
 pub returns : goal.returns
-returns c = name_ends c.args.bytes.now c.loop-b.b-index c.loop-b-test.false c.loop-b.invariant
+returns c =
+    all_from_yields_List is_name_byte _ _ c.all.result c.all.ensures.ran (YieldsList-from_slice c.args.bytes.now cc) (λ x b q k. search rules)
+    ∙ same_from_clauses (list_all is_name_byte) all_name_bytes (λ b rest. is_name_byte b && rest) refl (λ b bs. refl) (λ b bs. refl) c.args.bytes.now

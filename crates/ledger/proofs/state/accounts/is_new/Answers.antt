@@ -1,12 +1,21 @@
-use Rattle.tally.specs.Questions.{nobody}
-use Rattle.ledger.proofs.Names.{new_stops, new_goes, new_ends}
+use Rattle.std.proofs.Common.{◌≡◌, Bool, List, not, ◌&&◌, rules, refl, ◌∙◌}
+use Rattle.std.specs.List.{list_all}
+use Rattle.std.proofs.lemmas.Iterator.{YieldsList-from_slice}
+use Rattle.std.proofs.lemmas.Iterator.Search.{all_from_yields_List}
+use Rattle.std.proofs.lemmas.List.Recursion.{same_from_clauses}
+use Rattle.tally.specs.declared.rows.Account.{Account}
+use Rattle.tally.specs.declared.rows.Identity.{Identity}
+use Rattle.tally.specs.Questions.{is_new, same_identity}
 use Rattle.ledger.proofs.state.accounts.is_new.Goals as goal
 
-pub returns-then-is_same : goal.returns-then-is_same
-returns-then-is_same c = new_stops c.args.identity.now c.args.accounts.now c.loop-account.account-index nobody c.loop-account-test.true c.if-is_same.ensures c.loop-account.invariant
+abbrev is_other : Identity → Account → Bool
+is_other i a = not (same_identity i a.identity)
 
-pub loop-account-preserved : goal.loop-account-preserved
-loop-account-preserved c = new_goes c.args.identity.now c.args.accounts.now c.loop-account.account-index nobody c.loop-account-test.true c.if-is_same.ensures c.loop-account.invariant
+all_others : (i : Identity) (xs : List Account) → list_all (is_other i) xs ≡ is_new i xs
+unfolding is_new
+all_others i xs = same_from_clauses (list_all (is_other i)) (is_new i) (λ a rest. is_other i a && rest) refl (λ a as'. refl) (λ a as'. refl) xs
 
 pub returns : goal.returns
-returns c = new_ends c.args.identity.now c.args.accounts.now c.loop-account.account-index c.loop-account-test.false c.loop-account.invariant
+returns c =
+    all_from_yields_List (is_other c.args.identity.now) _ _ c.all.result c.all.ensures.ran (YieldsList-from_slice c.args.accounts.now cc) (λ x b q k. search rules)
+    ∙ all_others c.args.identity.now c.args.accounts.now

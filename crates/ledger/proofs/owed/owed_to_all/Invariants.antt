@@ -1,8 +1,0 @@
-use Rattle.std.proofs.Common.{◌≡◌, length, take}
-use Rattle.tally.specs.Book.{numbered}
-use Rattle.ledger.specs.Owings.{owed_at}
-use Rattle.ledger.proofs.owed.owed_to_all.Given as goal
-
--- what is owed to the accounts so far
-abbrev pub invariant-loop-i : goal.invariant-loop-i
-invariant-loop-i l = (length l.owed ≡ 64) × (take l.i l.owed ≡ numbered (owed_at l.settling l.size l.sheet l.last l.price) 1 (take l.i l.accounts))
