@@ -1,5 +1,5 @@
 -- One record at a time.
-use Rattle.std.proofs.Common.{◌≡◌, ℕ, ◌+◌, ◌-◌, ◌<◌, false, Bool, List, [], ◌∷◌, ◌++◌, length, drop, Option, Result, sym, ap, ◌∙◌, arith}
+use Rattle.std.proofs.Common.{◌≡◌, ℕ, ◌+◌, ◌<◌, false, Bool, List, ◌∷◌, ◌++◌, length, drop, Option, Result, sym, ap, ◌∙◌, arith}
 use Rattle.reader.specs.Cuts.{lines}
 use Rattle.reader.specs.Readings.{reading}
 use Rattle.reader.specs.Saying.{said}
@@ -22,10 +22,6 @@ module _ {opened : Bool} {old new : Reader} {p : Place} {came : Result Record Re
   pub fewer : length (lines_left new) < length (lines_left old)
   fewer = omega (arith, ap length one_fewer)
 
-  -- fewer bytes are left
-  pub nearer : length new.input.now - new.at < length old.input.now - old.at
-  nearer = omega (arith, step.stepped.onward, step.stepped.filled, new.within, ap length step.same)
-
 -- what is told over the lines left before a book is open: the text of the next, and what follows
 pub waited : {old new : Reader} {p : Place} {came : Result Record ReadFault} (s : Sequel) (step : ReadOn false old p came new) (r : Result (Option Opening) Fault) → r ≡ opening_to (said came) →
     waiting_at s old ≡ record_text p.number p.start r ++ onward (opening_in r) (λ o. s.opened o new.number new.at (lines_left new)) (waiting_at s new)
@@ -39,10 +35,6 @@ waited {old} {new} {p} {came} s step r e =
     let answer : opening_to (reading false old.at st.line) ≡ r = ap opening_to (sym st.says) ∙ sym e in
     ap (waiting s old.number old.at) (one_fewer step)
     ∙ (λ i. record_text (number i) (start i) (answer i) ++ onward (opening_in (answer i)) (λ o. s.opened o (counted i) (onwards i) (lines_left new)) (waiting s (counted i) (onwards i) (lines_left new)))
-
--- at the input's end nothing is left
-pub none_left : {opened : Bool} {old new : Reader} → AtEnd opened old new → lines_left old ≡ []
-none_left h = h.over.0
 
 pub waited_all : {old new : Reader} (s : Sequel) → AtEnd false old new → waiting_at s old ≡ s.over new.number
 unfolding waiting

@@ -6,6 +6,7 @@ use Rattle.reader.specs.declared.fault.ReadFault.{ReadFault}
 use Rattle.reader.specs.declared.reading.Reader.{Reader}
 use Rattle.reader.specs.declared.record.Record.{Record}
 use Rattle.desk.specs.declared.place.Place.{Place}
+use Rattle.desk.specs.declared.records.Records.{Records}
 
 -- the lines that a reader has left
 abbrev pub lines_left : Reader → List (List ℕ)
@@ -23,6 +24,7 @@ pub record AtEnd (opened : Bool) (old new : Reader) : Type 0 where
   pub over : Next opened old.input.now old.at old.number None new.at new.number
   pub same : new.input.now ≡ old.input.now
 
-abbrev pub NextPlaced : Bool → Reader → Option (Place × Result Record ReadFault) → Reader → Type 0
-NextPlaced opened old None new = AtEnd opened old new
-NextPlaced opened old (Some x) new = ReadOn opened old x.0 x.1 new
+-- what a step of the records of a reader gives
+abbrev pub next_record : {n : ℕ} → Bool → Records n → Option (Place × Result Record ReadFault) → Records n → Type 0
+next_record opened old None new = AtEnd opened old.0 new.0
+next_record opened old (Some x) new = ReadOn opened old.0 x.0 x.1 new.0

@@ -11,6 +11,7 @@ ghost use Rattle.desk.specs.Report.{log_by, log_text, opened_text, report, seque
 
 use crate::gathering::gather;
 use crate::openings::Opening;
+use crate::records::Records;
 use crate::telling::tell;
 use crate::waiting::wait;
 use contract_book::state::Book;
@@ -73,6 +74,7 @@ impl Desk<'_, '_> {
     }
 
     // Settles a book on its contract, of the kind that the ticker has.
+    // A switch, since the kinds are types of their own and no closure takes a kind of any type.
     fn begin(&mut self, opening: Opening, out: &mut Writer) -> Result<(), Full>
         requires built { IsBuildable opening }
         ensures { Writes out.old (opened_text opening self.old.reader.number self.old.reader.at (lines_left self.old.reader)) out.new result }
@@ -89,9 +91,9 @@ impl Desk<'_, '_> {
     fn write(&mut self, out: &mut Writer) -> Result<(), Full>
         ensures { Writes out.old (waiting_at sequel self.old.reader) out.new result }
     {
-        let mut reader = self.reader;
-        let opened = wait(&mut reader, out)?;
-        self.reader = reader;
+        let mut records = Records::<false>(self.reader);
+        let opened = wait(&mut records, out)?;
+        self.reader = records.0;
         match opened {
             Some(opening) => self.begin(opening, out),
             None => Ok(()),

@@ -8,7 +8,7 @@ ghost use Rattle.desk.specs.Told.{after_line, after_next, line_text, next_text, 
 use crate::faults::Fault;
 use crate::place::Place;
 use crate::printed::{put_designation, put_page, put_refusal};
-use crate::records::next_record;
+use crate::records::Records;
 use reader::fault::ReadFault;
 use reader::reading::Reader;
 use reader::record::Record;
@@ -83,7 +83,7 @@ impl Teller<'_> {
 
 // Writes the text of the records that are left, from the answers and the page rows of their run.
 pub fn tell(
-    mut reader: Reader,
+    reader: Reader,
     answers: &[Answer],
     rows: &[PageRow],
     out: &mut Writer,
@@ -96,7 +96,7 @@ pub fn tell(
         answers,
         rows,
     };
-    while let Some((place, came)) = next_record(&mut reader, true) {
+    for (place, came) in Records::<true>(reader) {
         teller.tell_record(place, came, out)?;
     }
     Ok(())

@@ -7,17 +7,17 @@ ghost use Rattle.desk.specs.Waiting.{Sequel};
 
 use crate::openings::{Opening, opened_by};
 use crate::printed::put_refusal;
-use crate::records::next_record;
-use reader::reading::Reader;
+use crate::records::Records;
 use text::writer::{Full, Writer};
 
 // Reads on until a book is opened or the input ends, and answers the book that was opened, if one was. Refused records are told, whatever is told behind them.
-pub fn wait(reader: &mut Reader, out: &mut Writer) -> Result<Option<Opening>, Full>
-    ensures came { (s : Sequel) → Waits s out.old reader.old out.new reader.new result }
-    ensures fewer { length (lines_left reader.new) ≤ length (lines_left reader.old) }
+pub fn wait(records: &mut Records<false>, out: &mut Writer) -> Result<Option<Opening>, Full>
+    ensures came { (s : Sequel) → Waits s out.old records.old.0 out.new records.new.0 result }
+    ensures fewer { length (lines_left records.new.0) ≤ length (lines_left records.old.0) }
     ensures built { IfOk result (λ o. IfSome o IsBuildable) }
 {
-    while let Some((place, came)) = next_record(reader, false) {
+    // A `for` over `&mut` proves nothing of where the records stand behind it.
+    while let Some((place, came)) = records.next() {
         match opened_by(came) {
             Ok(None) => {}
             Ok(Some(opening)) => return Ok(Some(opening)),

@@ -1,26 +1,17 @@
 -- A report, one record at a time.
-use Rattle.std.proofs.Common.{◌≡◌, ℕ, ◌+◌, ◌≤◌, true, List, ◌++◌, Ok, Err, Result, sym, ap, ◌∙◌, arith}
+use Rattle.std.proofs.Common.{◌≡◌, ℕ, ◌+◌, true, List, ◌++◌, Result, sym, ap, ◌∙◌, arith}
 use Rattle.reader.specs.Saying.{said}
 use Rattle.reader.specs.declared.fault.ReadFault.{ReadFault}
 use Rattle.reader.specs.declared.reading.Reader.{Reader}
 use Rattle.reader.specs.declared.record.Record.{Record}
-use Rattle.desk.specs.declared.faults.Fault.{Fault}
 use Rattle.desk.specs.declared.place.Place.{Place}
 use Rattle.desk.specs.Courses.{Course}
 use Rattle.desk.specs.Places.{AtEnd, ReadOn, lines_left}
 use Rattle.desk.specs.Waiting.{record_text}
 use Rattle.desk.proofs.Steps.{one_fewer}
-use Rattle.settle.specs.declared.answers.Outcome.{Outcome}
-use Rattle.settle.specs.declared.answers.Outcome.TheVariants.{Taken, Unserved}
 use Rattle.settle.specs.Answers.{answered, answering}
 use Rattle.settle.specs.Lines.{closing_line}
 use Rattle.settle.specs.Report.{serving, standing, taken_in}
-
--- a record takes one quotation at most
-pub at_most_one : (r : Result Outcome Fault) → taken_in r ≤ 1
-at_most_one (Ok Taken) = omega arith
-at_most_one (Ok Unserved) = omega arith
-at_most_one (Err fault) = omega arith
 
 module _ {S : Type 0} (c : Course S) where
   -- what is served over the lines that a reader has left

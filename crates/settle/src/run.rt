@@ -1,5 +1,5 @@
 // A run over an input: waiting for a book to be opened, and then serving it.
-ghost use Rattle.std.specs.Prelude.{◌≡◌, ◌+◌, ◌^◌, ◌<◌};
+ghost use Rattle.std.specs.Prelude.{◌≡◌, ◌+◌, ◌≤◌};
 ghost use Rattle.reader.specs.Saying.{said};
 ghost use Rattle.text.specs.Puts.{Puts};
 ghost use Rattle.text.specs.Writers.{Writes};
@@ -13,7 +13,7 @@ use crate::answers::{Outcome, answer};
 use crate::printed::put_closing;
 use desk::place::Place;
 use desk::printed::put_refusal;
-use desk::records::next_record;
+use desk::records::Records;
 use desk::waiting::wait;
 use kinds::contract::Contract;
 use kinds::delivering::Delivering;
@@ -26,11 +26,13 @@ use reader::reading::Reader;
 use reader::record::Record;
 use text::writer::{Full, Writer};
 
-// An open book: its kind, and how many quotations it has taken.
+// An open book: its kind, how many records were read, and how many quotations it has taken.
 #[derive(Drop)]
 struct Book<K> {
     kind: K,
+    records: usize,
     taken: usize,
+    ghost few: { taken ≤ records },
 }
 
 impl<K: Contract> Book<K> {
@@ -41,11 +43,13 @@ impl<K: Contract> Book<K> {
         came: Result<Record, ReadFault>,
         out: &mut Writer,
     ) -> Result<(), Full>
-        requires counted { self.old.taken + 1 < 2 ^ 64 }
+        requires next { place.number ≡ self.old.records + 1 }
         ensures puts { Writes out.old (record_text place.number place.start (answering (course K.Contract.means) self.old.kind (said came.entry))) out.new result }
+        ensures records { self.new.records ≡ place.number }
         ensures kind { self.new.kind ≡ answered (course K.Contract.means) self.old.kind (said came.entry) }
         ensures taken { self.new.taken ≡ self.old.taken + taken_in (answering (course K.Contract.means) self.old.kind (said came.entry)) }
     {
+        self.records = place.number;
         match answer(&mut self.kind, came) {
             Ok(Outcome::Taken) => {
                 self.taken += 1;
@@ -58,17 +62,22 @@ impl<K: Contract> Book<K> {
 }
 
 // Reads on to the input's end with an open book, and closes the report.
-fn serve<K: Contract + Drop>(kind: K, mut reader: Reader, out: &mut Writer) -> Result<(), Full>
+fn serve<K: Contract + Drop>(kind: K, reader: Reader, out: &mut Writer) -> Result<(), Full>
     ensures { Writes out.old (serving (course K.Contract.means) (standing reader.entry.number reader.entry.at 0 kind) (lines_left reader.entry)) out.new result }
 {
-    let mut book = Book { kind, taken: 0 };
-    while let Some((place, came)) = next_record(&mut reader, true) {
+    let mut book = Book {
+        kind,
+        records: reader.number(),
+        taken: 0,
+    };
+    for (place, came) in Records::<true>(reader) {
         book.serve_record(place, came, out)?;
     }
-    put_closing(out, reader.number(), book.taken, book.kind.final_price())
+    put_closing(out, book.records, book.taken, book.kind.final_price())
 }
 
 // Serves a book on a ticker's contract, of the kind that the ticker has.
+// A switch, since the kinds are types of their own and no closure takes a kind of any type.
 fn begin(ticker: Ticker, reader: Reader, out: &mut Writer) -> Result<(), Full>
     ensures { Writes out.old (opened_on ticker reader.entry.number reader.entry.at (lines_left reader.entry)) out.new result }
 {
@@ -84,10 +93,10 @@ fn begin(ticker: Ticker, reader: Reader, out: &mut Writer) -> Result<(), Full>
 fn write(input: &[u8], out: &mut Writer) -> Result<(), Full>
     ensures { Writes out.old (report input.now) out.new result }
 {
-    let mut reader = Reader::new(input);
-    match wait(&mut reader, out)? {
-        Some(opening) => begin(opening.ticker, reader, out),
-        None => put_closing(out, reader.number(), 0, None),
+    let mut records = Records::<false>(Reader::new(input));
+    match wait(&mut records, out)? {
+        Some(opening) => begin(opening.ticker, records.0, out),
+        None => put_closing(out, records.0.number(), 0, None),
     }
 }
 

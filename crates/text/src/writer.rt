@@ -9,6 +9,7 @@ use itoa::{Buffer, Integer};
 pub struct Full;
 
 // A slice of bytes, and where the text in it ends.
+// No `fmt::Write`: `write!` says nothing of when it fails, and a report is refused exactly where it does not fit.
 #[derive(Drop)]
 pub struct Writer<'a> {
     out: &'a mut [u8],

@@ -7,9 +7,9 @@ use Rattle.desk.proofs.waiting.wait.Given as goal
 
 abbrev pub invariant-loop-place : goal.invariant-loop-place
 invariant-loop-place l = record {
-  told : (s : Sequel) → Progress l.initial.out (waiting_at s l.initial.reader) l.out (waiting_at s l.reader);
-  fewer : length (lines_left l.reader) ≤ length (lines_left l.initial.reader);
+  told : (s : Sequel) → Progress l.initial.out (waiting_at s l.initial.records.0) l.out (waiting_at s l.records.0);
+  fewer : length (lines_left l.records.0) ≤ length (lines_left l.initial.records.0);
 }
 
 abbrev pub decreases-loop-place : goal.decreases-loop-place
-decreases-loop-place l = length l.reader.input.now - l.reader.at
+decreases-loop-place l = length l.records.0.input.now - l.records.0.at

@@ -6,7 +6,7 @@ use Rattle.desk.proofs.run.Desk.write.Goals as goal
 
 pub returns-in-Some : goal.returns-in-Some
 returns-in-Some c =
-    finished (retold (c.in_ok-opened.ensures.came sequel) (ap (λ o. to_come_at sequel o c.wait.new.reader) c.in-Some.is)) _ _ c.begin.ensures
+    finished (retold (c.in_ok-opened.ensures.came sequel) (ap (λ o. to_come_at sequel o c.wait.new.records.0) c.in-Some.is)) _ _ c.begin.ensures
 
 pub returns-in-None : goal.returns-in-None
-returns-in-None c = all_written (c.in_ok-opened.ensures.came sequel) (ap (λ o. to_come_at sequel o c.wait.new.reader) c.in-None.is)
+returns-in-None c = all_written (c.in_ok-opened.ensures.came sequel) (ap (λ o. to_come_at sequel o c.wait.new.records.0) c.in-None.is)
