@@ -1,10 +1,9 @@
 -- Two lists read side by side, and rows written from the top of a slice.
 use Rattle.std.proofs.Common.{◌≡◌, ℕ, suc, ◌+◌, ◌-◌, ◌<◌, ◌≤◌, List, [], ◌∷◌, ◌++◌, length, get_or, take, drop, set, sym, refl, ap, ◌∙◌, arith}
 use lib.Lanes.{zip2}
-use Rattle.std.proofs.lemmas.List.{append_assoc, drop_more, set_at, take_all, take_more, length-take-le, get_or-append_right}
+use Rattle.std.proofs.lemmas.List.{append_assoc, drop_more, set_at, take_more, length-take-le, get_or-append_right}
 use Rattle.tally.specs.Book.{numbered}
 use Rattle.tally.proofs.Numbered.{numbered_push}
-use Rattle.ledger.specs.Told.{over}
 
 none_off : (i : ℕ) → i - i ≡ 0
 none_off i = omega arith
@@ -51,13 +50,6 @@ module _ {X Y Z : Type 0} (f : X → Y → Z) where
       ap (λ l. get_or l i d) (h ∙ ap (λ l. ws ++ l) (drop_more was i d room))
       ∙ get_or-append_right ws (get_or was i d ∷ drop (i + 1) was) i i d (length_top xs ys i le same) (omega arith)
       ∙ ap (λ n. get_or (get_or was i d ∷ drop (i + 1) was) n d) (none_off i)
-
-  -- all of them written
-  pub write_all : (xs : List X) (ys : List Y) (was now_is : List Z) (i : ℕ) → i ≡ length xs → length ys ≡ length xs →
-      now_is ≡ zip2 f (take i xs) (take i ys) ++ drop i was → now_is ≡ over (zip2 f xs ys) was
-  write_all xs ys was now_is i all same h =
-      h ∙ ap (λ l. zip2 f l (take i ys) ++ drop i was) (take_all i xs (omega arith)) ∙ ap (λ l. zip2 f xs l ++ drop i was) (take_all i ys (omega arith))
-      ∙ ap (λ n. zip2 f xs ys ++ drop n was) (all ∙ sym (length_beside xs ys same))
 
 -- what each row gives by its number, put beside the row
 pub beside_numbered : {X Y Z : Type 0} (f : X → Y → Z) (g : ℕ → X → Y) (n : ℕ) (xs : List X) → zip2 f xs (numbered g n xs) ≡ numbered (λ k x. f x (g k x)) n xs

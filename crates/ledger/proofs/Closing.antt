@@ -1,13 +1,11 @@
 -- A page of a ledger as the rules have it, and what a marking and an expiry leave.
-use Rattle.std.proofs.Common.{◌≡◌, ℕ, ◌+◌, ◌≤◌, true, not, eqb, leb, List, [], ◌∷◌, map, length, ℤ, pos, ◌+ℤ◌, is_some, Some, None, Option, sym, refl, ap, ◌∙◌, arith}
+use Rattle.std.proofs.Common.{◌≡◌, ℕ, ◌+◌, ◌≤◌, true, not, eqb, leb, List, [], ◌∷◌, map, length, ℤ, pos, ◌+ℤ◌, Some, None, sym, refl, ap, ◌∙◌, arith}
 use lib.Lanes.{zip2}
 use borrow.Author.Differences.{ints}
 use Rattle.std.proofs.lemmas.Bool.{and_from, and_parts, eqb-true, le-leb, leb-true}
 use Rattle.arrayvec.specs.ArrayVec.{with_items}
 use Rattle.arrayvec.proofs.ArrayVecLemmas.{items-with_items}
 use Rattle.money.specs.Ranges.{is_price, is_rate}
-use Rattle.money.specs.Units.{PriceCents}
-use Rattle.kinds.specs.Meaning.{cents_of}
 use Rattle.tally.specs.declared.call.Marking.{Marking as MarkingCall}
 use Rattle.tally.specs.declared.rows.Account.{Account}
 use Rattle.tally.specs.declared.rows.Lot.{Lot}
@@ -78,11 +76,6 @@ pub settled_back : (l : Ledger) (s : Settling) {owed os : List Owed} {xs after :
 settled_back l s {owed} {after = after} ea ex eo many =
     let e = ea ∙ (λ i. zip2 (settled_with s) (ex i) (eo i)) in
     items-with_items l.accounts after (ap length e ∙ length_beside (settled_with s) (view l).accounts owed many) ∙ e
-
--- what was read of the tables is what is owed
-pub owed_is : (l : Ledger) (s : Settling) (p : ℕ) {xs : List Account} {ts : List Trade} {last price : ℕ} → xs ≡ (view l).accounts → ts ≡ (view l).sheet → last ≡ l.price → price ≡ p →
-    numbered (owed_at s l.terms.size ts last price) 1 xs ≡ owed_by l s p
-owed_is l s p ex et el ep = λ i. numbered (owed_at s l.terms.size (et i) (el i) (ep i)) 1 (ex i)
 
 pub price_is : (n : ℕ) → (1 ≤ n) × (n ≤ 999999) → is_price n ≡ true
 price_is n h = and_from (leb 1 n) (leb n 999999) (le-leb 1 n h.0) (le-leb n 999999 h.1)
@@ -156,9 +149,3 @@ expired_view l final eo ea es eos el =
     ended l final
     (settled_back l Expiry ea es eos (owed_many l Expiry final eo) ∙ settled_rows l Expiry final eo ∙ numbered_same _ (expired_account (terms_of l) (view l) final) 1 (view l).accounts (λ k a _ _. expired_row l final k a))
     el
-
--- an accepted expiry has its final price
-pub final_there : (l : Ledger) (final : Option PriceCents) (rows : ℕ) → verdict (terms_of l) (view l) (expiring (cents_of final) rows) ≡ None → is_some final ≡ true
-unfolding questions
-final_there l None rows q = (met _ _ (met _ _ q).1).0
-final_there l (Some p) rows q = refl

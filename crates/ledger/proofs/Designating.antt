@@ -1,5 +1,5 @@
 -- A designation that is due: there is a lot for it, and what its rows make of the view.
-use Rattle.std.proofs.Common.{◌≡◌, ℕ, ◌-◌, ◌≤◌, true, List, [], ◌∷◌, ◌++◌, length, get_or, set, ℤ, pos, ◌-ℤ◌, neg_ℤ, is_some, Some, None, Ok, Option, sym, refl, ap, ◌∙◌, subst, arith}
+use Rattle.std.proofs.Common.{◌≡◌, ℕ, ◌-◌, ◌≤◌, true, List, [], ◌∷◌, ◌++◌, length, get_or, set, ℤ, pos, ◌-ℤ◌, neg_ℤ, is_some, Some, None, Option, sym, refl, ap, ◌∙◌, subst, arith}
 use mathlib.Core.Logic.{∥∥₁_elim}
 use native.Mathlib.Bridge.{le_prop}
 use borrow.Author.Differences.{ints}
@@ -7,7 +7,6 @@ use Rattle.std.specs.List.{AllByRecursion}
 use Rattle.std.proofs.lemmas.Bool.{false≢true, ltb-true}
 use Rattle.arrayvec.specs.ArrayVec.{with_items}
 use Rattle.aged.specs.Line.{first, take_oldest}
-use Rattle.tally.specs.declared.call.Reply.TheVariants.{Designated}
 use Rattle.tally.specs.declared.rows.Account.{Account}
 use Rattle.tally.specs.declared.rows.Lot.{Lot}
 use Rattle.tally.specs.declared.rows.Notice.{Notice}
@@ -17,7 +16,7 @@ use Rattle.tally.specs.Events.{designating}
 use Rattle.tally.specs.Law.{Registered}
 use Rattle.tally.specs.Questions.{is_due, nobody, questions, registered, verdict}
 use Rattle.tally.specs.Rows.{lot_counting, notice_counting}
-use Rattle.tally.specs.Runs.{designation_of, tally}
+use Rattle.tally.specs.Runs.{tally}
 use Rattle.tally.specs.Steps.{designate, designate_oldest, designated_account, less_oldest_lots, less_oldest_notices, paired}
 use Rattle.tally.proofs.Facts.{met}
 use Rattle.tally.proofs.Law.{settled}
@@ -116,15 +115,6 @@ oldest_view : (v : View) (n : Notice) (lot : Lot) (ns : List Notice) (ls : List 
 oldest_view v n lot [] ls en el = absurd (no_first en)
 oldest_view v n lot (x ∷ ns) [] en el = absurd (no_first el)
 oldest_view v n lot (x ∷ ns) (y ∷ ls) en el = ap (λ z. designate v z y) (the_first en) ∙ ap (designate v n) (the_first el)
-
-pub oldest_answer : (v : View) (n : Notice) (lot : Lot) (m : ℕ) (ns : List Notice) (ls : List Lot) → first ns ≡ Some n → first ls ≡ Some lot → m ≡ paired n lot →
-    Ok (Designated (record { buyer = lot.owner; seller = n.seller; contracts = m; price = v.price })) ≡ designation_of v ns ls
-oldest_answer v n lot m [] ls en el em = absurd (no_first en)
-oldest_answer v n lot m (x ∷ ns) [] en el em = absurd (no_first el)
-oldest_answer v n lot m (x ∷ ns) (y ∷ ls) en el em =
-    ap (λ k. Ok (Designated (record { buyer = lot.owner; seller = n.seller; contracts = k; price = v.price }))) em
-    ∙ ap (λ z. Ok (Designated (record { buyer = lot.owner; seller = z.seller; contracts = paired z lot; price = v.price }))) (sym (the_first en))
-    ∙ ap (λ z. Ok (Designated (record { buyer = z.owner; seller = x.seller; contracts = paired x z; price = v.price }))) (sym (the_first el))
 
 -- the accounts after the designation and both lines with the contracts taken off are the view that the rules give
 pub paired_off : (l : Ledger) (n : Notice) (lot : Lot) (m : ℕ) {slice accounts : List Account} {lots : List Lot} {notices : List Notice} → first (view l).notices ≡ Some n → first (view l).lots ≡ Some lot → m ≡ paired n lot →

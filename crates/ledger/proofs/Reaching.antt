@@ -1,15 +1,13 @@
 -- A run goes on: a view that some run leads to leads, by an accepted call, to the next.
-use Rattle.std.proofs.Common.{◌≡◌, ℕ, List, [], ◌∷◌, ◌++◌, Some, None, Ok, Err, fold, Option, Result, sym, refl, ap, ◌∙◌, subst, arith}
+use Rattle.std.proofs.Common.{◌≡◌, ℕ, List, [], ◌∷◌, ◌++◌, Some, None, Ok, fold, Option, Result, sym, refl, ap, ◌∙◌, subst, arith}
 use mathlib.Core.Logic.{∥∥₁_map}
 use Rattle.std.proofs.ByRecursion.{All-append}
-use Rattle.tally.specs.Answers.{Answer}
 use Rattle.tally.specs.declared.refusal.Refusal.{Refusal}
-use Rattle.tally.specs.declared.rows.PageRow.{PageRow}
 use Rattle.tally.specs.Book.{Terms, View}
 use Rattle.tally.specs.Bounds.{FinalPriced}
 use Rattle.tally.specs.Events.{Event}
 use Rattle.tally.specs.Questions.{verdict}
-use Rattle.tally.specs.Runs.{after, answer, opened, reply, written, rows_of, page_of}
+use Rattle.tally.specs.Runs.{after, opened}
 use Rattle.tally.specs.Steps.{done}
 use Rattle.ledger.specs.Reached.{Reached}
 use Rattle.ledger.specs.Told.{judged}
@@ -20,13 +18,6 @@ shown_from c v (x ∷ es) e = shown_from c (after c v x) es e
 
 pub accepted : (c : Terms) (v : View) (e : Event) → verdict c v e ≡ None → after c v e ≡ done c v e
 accepted c v e none = ap (λ x. elim x as (λ _. View) [ None ↦ done c v e | Some _ ↦ v ]) none
-
--- what an accepted call answers, and the rows that it writes
-pub replied : (c : Terms) (v : View) (e : Event) → verdict c v e ≡ None → reply c v e ≡ answer c v e
-replied c v e none = ap (λ x. elim x as (λ _. Answer) [ None ↦ answer c v e | Some r ↦ Err r ]) none
-
-pub wrote : (c : Terms) (v : View) (e : Event) → verdict c v e ≡ None → written c v e ≡ rows_of (page_of c v e)
-wrote c v e none = ap (λ x. elim x as (λ _. List PageRow) [ None ↦ rows_of (page_of c v e) | Some _ ↦ [] ]) none
 
 pub reach : (c : Terms) (v : View) (e : Event) → FinalPriced e → verdict c v e ≡ None → Reached c v → Reached c (done c v e)
 reach c v e priced q r = record {

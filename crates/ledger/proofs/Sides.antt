@@ -1,6 +1,6 @@
 -- One side of the sheet, row by row.
 use Rattle.std.proofs.Common.{◌≡◌, ℕ, zero, suc, ◌+◌, ◌-◌, ◌*◌, ◌<◌, ◌≤◌, min, cond, eqb, List, [], ◌∷◌, ◌++◌, length, get_or, take, drop, replicate, sum, sym, refl, ap, ◌∙◌, arith}
-use Rattle.std.proofs.lemmas.List.{map-append, take-append-drop, take_more, take_all, length-append, length-replicate, length-drop}
+use Rattle.std.proofs.lemmas.List.{map-append, take-append-drop, take_more, length-append, length-replicate, length-drop}
 use Rattle.std.proofs.lemmas.List.Sums.{sum_by-append, sum_by-take-drop}
 use Rattle.tally.specs.declared.rows.Trade.{Trade}
 use Rattle.tally.specs.Book.{Posting, prices, buy, sell}
@@ -79,9 +79,6 @@ read_row k side ts i d o a v l w lt h =
     ∙ prices_append k (on_side side (take i ts)) (posting side t ∷ [])
     ∙ ap (λ l. prices k (on_side side (take i ts)) ++ l) (prices_one k (posting side t) ∙ ap (λ n. replicate n (posting side t).price) (own k side t) ∙ ap (λ p. replicate (contracts_on k side t) p) (priced side t)) in
     rw grows (read_more (prices k (on_side side (take i ts))) o a v l w (contracts_on k side t) t.price h)
-
-pub read_all : (k : ℕ) (side : Side) (ts : List Trade) (i : ℕ) (o a v l w : ℕ) → length ts ≤ i → Read (prices k (on_side side (take i ts))) o a v l w → Read (prices k (on_side side ts)) o a v l w
-read_all k side ts i o a v l w le h = rw (take_all i ts le) at h
 
 -- the same for what the code has of the row
 pub read_next : (k : ℕ) (side : Side) (ts : List Trade) (i : ℕ) (d : Trade) (o a v l w : ℕ) {n m p q : ℕ} → i < length ts →

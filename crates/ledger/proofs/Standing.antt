@@ -78,9 +78,6 @@ module _ (l : Ledger) where
   pub few_accounts : length (view l).accounts ≤ 64
   few_accounts = known (λ b. b.few_accounts)
 
-  pub few_trades : length (view l).sheet ≤ 1024
-  few_trades = known (λ b. b.few_trades)
-
   pub few_lots : length (view l).lots + count_by opens_lot (view l).accounts ≤ 1024
   few_lots = known (λ b. b.few_lots)
 

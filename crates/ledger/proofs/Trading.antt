@@ -48,10 +48,6 @@ pub record Nets (l : Ledger) (t : Trade) : Type 0 where
 pub nets : (l : Ledger) (t : Trade) → are_parties (view l) t ≡ true → between 1 3000 t.contracts ≡ true → Nets l t
 nets l t e k = let p = parties l t e in record { buyer = net_within l t.buyer p.buyer; seller = net_within l t.seller p.seller; few = (between_is 1 3000 t.contracts k).1 }
 
--- the tick that a book is built on is not 0
-pub ticked : (l : Ledger) → 1 ≤ (terms_of l).tick
-ticked l = ∥∥₁_elim l.reached le_prop (λ x. x.ticked)
-
 -- ---- the limits
 -- what the day's limits say of the two rows
 pub day_limits : (l : Ledger) (t : Trade) → keeps_limits (view l) t ≡ true → ((find (view l) t.buyer).bought + t.contracts ≤ 3000) × ((find (view l) t.seller).sold + t.contracts ≤ 3000)

@@ -96,6 +96,7 @@ impl Ledger {
     }
 
     // Registers an account, and answers its number.
+    #[tactic(auto, unfolding(tally::specs::Steps::done))]
     pub fn register(&mut self, registration: Registration) -> Result<usize, Refusal>
         ensures answers { told Numbered result ≡ reply (terms_of self.old) (view self.old) (registering registration) }
         ensures after { view self.new ≡ after (terms_of self.old) (view self.old) (registering registration) }

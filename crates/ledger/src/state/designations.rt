@@ -87,6 +87,7 @@ impl Ledger {
     }
 
     // Pairs the oldest due notice with the oldest lot, for the lesser count.
+    #[tactic(auto, unfolding(tally::specs::Steps::done))]
     pub fn designate(&mut self) -> Result<Designation, Refusal>
         ensures answers { told Designated result ≡ reply (terms_of self.old) (view self.old) designating }
         ensures after { view self.new ≡ after (terms_of self.old) (view self.old) designating }

@@ -63,6 +63,7 @@ impl Ledger {
     }
 
     // Expires the contract at its final price, where there is one.
+    #[tactic(auto, unfolding(tally::specs::Steps::done))]
     pub fn expire(
         &mut self,
         final_price: Option<Price>,

@@ -64,6 +64,7 @@ impl Ledger {
     }
 
     // Marks the open session: pays each account into its row of the page, and says what the page comes to.
+    #[tactic(auto, unfolding(tally::specs::Steps::done))]
     pub fn mark(&mut self, marking: Marking, page: &mut [PageRow]) -> Result<Sums, Refusal>
         ensures answers { told Paid result ≡ reply (terms_of self.old) (view self.old) (marks marking (length page.old)) }
         ensures after { view self.new ≡ after (terms_of self.old) (view self.old) (marks marking (length page.old)) }

@@ -135,6 +135,7 @@ impl Ledger {
     }
 
     // Takes a seller's notice of delivery.
+    #[tactic(auto, unfolding(tally::specs::Steps::done))]
     pub fn notify(&mut self, notification: Notification) -> Result<(), Refusal>
         ensures answers { told plainly result ≡ reply (terms_of self.old) (view self.old) (noticing notification) }
         ensures after { view self.new ≡ after (terms_of self.old) (view self.old) (noticing notification) }

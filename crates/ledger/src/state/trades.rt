@@ -238,6 +238,7 @@ impl Ledger {
     }
 
     // Takes a trade onto the open session's sheet.
+    #[tactic(auto, unfolding(tally::specs::Steps::done))]
     pub fn trade(&mut self, trade: Trade) -> Result<(), Refusal>
         ensures answers { told plainly result ≡ reply (terms_of self.old) (view self.old) (trading trade) }
         ensures after { view self.new ≡ after (terms_of self.old) (view self.old) (trading trade) }

@@ -3,13 +3,6 @@ use borrow.Author.Differences.{ints}
 use Rattle.ledger.proofs.Products.{product_within}
 use Rattle.ledger.proofs.owed.times.Goals as goal
 
-pub overflow_mul-result : goal.overflow_mul-result
-overflow_mul-result c =
-    let a : to_z w64 (of_z w64 c.args.a) ≡ c.args.a = omega (arith, ints) in
-    let b : to_z w64 (of_z w64 c.args.b) ≡ c.args.b = omega (arith, ints) in
-    let m = product_within c.args.a c.args.b 3000 8999991000 c.requires.0 c.requires.1 in
-    simp (a, b) (omega (arith, ints))
-
 pub returns : goal.returns
 returns c =
     let a : to_z w64 (of_z w64 c.args.a) ≡ c.args.a = omega (arith, ints) in

@@ -8,12 +8,6 @@ use Rattle.ledger.proofs.Gains.{above_sum}
 use Rattle.ledger.proofs.Paying.{read_signed}
 use Rattle.ledger.proofs.owed.Valuation.by_marking.Goals as goal
 
-pub split-bought-requires : goal.split-bought-requires
-split-bought-requires c = omega (arith, c.requires.0, c.requires.1)
-
-pub split-sold-requires : goal.split-sold-requires
-split-sold-requires c = omega (arith, c.requires.0, c.requires.1)
-
 abbrev owing : goal.After-scaled-2 → Owed
 owing c = marking_owed c.args.self.size c.args.sheet.now.trades.now c.args.self.last c.args.self.price.number c.args.number c.args.account
 

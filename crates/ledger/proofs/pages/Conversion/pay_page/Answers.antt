@@ -3,17 +3,14 @@ use Rattle.money.specs.Pays.{payment_of}
 use Rattle.tally.specs.Questions.{nobody}
 use Rattle.tally.specs.Pages.{Owed}
 use Rattle.ledger.specs.Owings.{row_to}
-use Rattle.ledger.proofs.Beside.{write_more, write_all}
+use Rattle.ledger.proofs.Beside.{write_more}
 use Rattle.ledger.proofs.Paying.{lines_next, lines_all, read_signed, row_is, sums_first, sums_both, sums_within}
 use Rattle.ledger.proofs.pages.Conversion.pay_page.Goals as goal
 
-pub add_line-sums-requires : goal.add_line-sums-requires
-add_line-sums-requires c =
+pub add_line-sums-requires-clause-sums : goal.add_line-sums-requires-clause-sums
+add_line-sums-requires-clause-sums c =
     let i = c.loop-i.i in
-    record {
-      sums = sums_within (2 * i + 1) c.add_line.result (omega arith) (sums_first (2 * i) c.loop-i.sums _ c.pay_line-day_trade.result c.add_line.ensures c.loop-i.invariant.2 c.pay_line-day_trade.ensures.within);
-      payment = c.pay_line-margin.ensures.within;
-    }
+    sums_within (2 * i + 1) c.add_line.result (omega arith) (sums_first (2 * i) c.loop-i.sums _ c.pay_line-day_trade.result c.add_line.ensures c.loop-i.invariant.2 c.pay_line-day_trade.ensures.within)
 
 pub loop-i-preserved : goal.loop-i-preserved
 loop-i-preserved c =
@@ -39,8 +36,5 @@ loop-i-preserved c =
       sums_both i c.loop-i.sums a.residency day_trade.result margin.result c.add_line.ensures c.add_line-sums.ensures c.loop-i.invariant.2 day_trade.ensures.within margin.ensures.within,
     )
 
-pub returns : goal.returns
-returns c = record {
-  page = write_all (row_to c.args.self.currency c.args.self.rate.number) c.args.accounts.now c.args.owed.now c.args.page.now c.loop-i.page c.loop-i.i (omega arith) c.requires.beside c.loop-i.invariant.0;
-  sums = lines_all c.args.self.currency c.args.self.rate.number c.args.accounts.now c.args.owed.now c.loop-i.i c.loop-i.sums c.loop-i-test.false c.loop-i.invariant.1;
-}
+pub returns-clause-sums : goal.returns-clause-sums
+returns-clause-sums c = lines_all c.args.self.currency c.args.self.rate.number c.args.accounts.now c.args.owed.now c.loop-i.i c.loop-i.sums c.loop-i-test.false c.loop-i.invariant.1

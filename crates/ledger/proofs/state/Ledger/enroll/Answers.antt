@@ -26,8 +26,3 @@ invariant_of-self c =
     let l = c.args.self.now in
     let e = ap (λ (xs : List Account). viewed xs l.sheet.items l.lots l.notices l.session l.price l.rate l.expired) (enrolled c) in
     record { reached = goes_on (terms_of l) (view l) (registering c.args.registration) tt c.requires e l.reached }
-
-pub returns-clause-view : goal.returns-clause-view
-returns-clause-view c =
-    let l = c.args.self.now in
-    ap (λ (xs : List Account). viewed xs l.sheet.items l.lots l.notices l.session l.price l.rate l.expired) (enrolled c.before)

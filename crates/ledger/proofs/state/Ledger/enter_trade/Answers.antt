@@ -28,6 +28,3 @@ unfolding done
 invariant_of-self c =
     let l = c.args.self.now in
     record { reached = goes_on (terms_of l) (view l) (trading c.args.trade) tt c.requires (entered l c.args.trade c.as_mut_slice.ensures.value c.hand_over.ensures c.push.ensures.items) l.reached }
-
-pub returns-clause-view : goal.returns-clause-view
-returns-clause-view c = entered c.args.self.now c.args.trade c.as_mut_slice.ensures.value c.hand_over.ensures c.push.ensures.items

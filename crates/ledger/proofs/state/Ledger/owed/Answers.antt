@@ -12,6 +12,3 @@ pub owed_to_all-requires : goal.owed_to_all-requires
 owed_to_all-requires c =
     let l = c.args.self.now in
     rw (c.accounts.ensures, c.sheet.ensures) (record { few = few_accounts l; owable = owable l c.args.settling c.args.price.number (price_is _ c.args.price.within) })
-
-pub returns : goal.returns
-returns c = rw (c.owed_to_all.ensures, c.accounts.ensures, c.sheet.ensures)

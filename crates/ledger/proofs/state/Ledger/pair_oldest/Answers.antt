@@ -1,8 +1,8 @@
-use Rattle.std.proofs.Common.{is_some, sym, refl, ap, ◌∙◌}
+use Rattle.std.proofs.Common.{is_some, sym, ap, ◌∙◌}
 use Rattle.tally.specs.Events.{designating}
 use Rattle.tally.specs.Steps.{done}
 use Rattle.ledger.specs.Ledgers.{view, terms_of}
-use Rattle.ledger.proofs.Designating.{is_designated, oldest_answer, pair, paired_off}
+use Rattle.ledger.proofs.Designating.{is_designated, pair, paired_off}
 use Rattle.ledger.proofs.Reaching.{goes_on}
 use Rattle.ledger.proofs.Tables.{contracts, registers}
 use Rattle.ledger.proofs.state.Ledger.pair_oldest.Goals as goal
@@ -37,15 +37,7 @@ invariant_of-self c =
     let e = paired_off l n lot c.paired-contracts.result (sym c.oldest.ensures ∙ c.unwrap-notice.ensures) (sym c.oldest-2.ensures ∙ c.unwrap-lot.ensures) c.paired-contracts.ensures c.as_mut_slice.ensures.value c.deliver.ensures c.take_oldest-2.ensures.after c.take_oldest.ensures.after in
     record { reached = goes_on (terms_of l) (view l) designating tt c.requires e l.reached }
 
-pub returns : goal.returns
-returns c =
-    let l = c.args.self.now in
-    let n = c.unwrap-notice.result in
-    let lot = c.unwrap-lot.result in
-    let en = sym c.oldest.ensures ∙ c.unwrap-notice.ensures in
-    let el = sym c.oldest-2.ensures ∙ c.unwrap-lot.ensures in
-    record {
-      answer = oldest_answer (view l) n lot c.paired-contracts.result (view l).notices (view l).lots en el c.paired-contracts.ensures;
-      view = paired_off l n lot c.paired-contracts.result en el c.paired-contracts.ensures c.as_mut_slice.ensures.value c.deliver.ensures c.take_oldest-2.ensures.after c.take_oldest.ensures.after;
-      terms = refl;
-    }
+pub returns-clause-view : goal.returns-clause-view
+returns-clause-view c =
+    paired_off c.args.self.now c.unwrap-notice.result c.unwrap-lot.result c.paired-contracts.result (sym c.oldest.ensures ∙ c.unwrap-notice.ensures) (sym c.oldest-2.ensures ∙ c.unwrap-lot.ensures) c.paired-contracts.ensures
+    c.as_mut_slice.ensures.value c.deliver.ensures c.take_oldest-2.ensures.after c.take_oldest.ensures.after

@@ -14,8 +14,5 @@ loop-i-preserved c =
       | else-opens_lot w ↦ (opened_more t xs c.loop-i.i n false c.loop-i-test.true (w.if-opens_lot.ensures ∙ ap opens_lot c.traded.ensures) c.loop-i.invariant.0 (omega (arith, w.opened-is)), omega (arith, w.opened-is))
     ]
 
-pub returns : goal.returns
-returns c = record {
-  value = c.loop-i.invariant.0 ∙ opened_all c.args.trade c.args.accounts.now c.loop-i.i c.loop-i-test.false;
-  below = omega (arith, c.loop-i.invariant.1);
-}
+pub returns-clause-value : goal.returns-clause-value
+returns-clause-value c = c.loop-i.invariant.0 ∙ opened_all c.args.trade c.args.accounts.now c.loop-i.i c.loop-i-test.false
