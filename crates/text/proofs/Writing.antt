@@ -1,6 +1,7 @@
 -- Texts written one after the other.
 use Rattle.std.proofs.Common.{◌≡◌, ℕ, ◌+◌, ◌-◌, ◌≤◌, List, [], ◌++◌, length, take, drop, Ok, Err, Result, sym, refl, ap, ◌∙◌, subst, append_assoc, append-nil, arith}
 use Rattle.std.proofs.lemmas.List.{drop-drop, length-append, length-drop, length-take}
+use Rattle.std.specs.Result.{IsErr}
 use Rattle.text.specs.declared.writer.Full.{Full}
 use Rattle.text.specs.declared.writer.Writer.{Writer}
 use Rattle.text.specs.Puts.{Put}
@@ -50,6 +51,11 @@ module _ {a b : Writer} {s : List ℕ} (first : Wrote a s b) where
 -- where the front of a text does not fit, the whole does not
 pub overflows_front : {w v : Writer} {s : List ℕ} (t : List ℕ) → Overflows w s v → Overflows w (s ++ t) v
 overflows_front {w} {v} {s} t h = record { same = h.same; long = omega (arith, h.long, length-append s t); keeps = h.keeps }
+
+-- where a `?` hands on that a text does not fit
+pub handed_on : {old new : Writer} {text : List ℕ} (r : Result (Unit {0}) Full) → IsErr r → Overflows old text new → Writes old text new r
+handed_on (Ok done) e h = cc
+handed_on (Err full) e h = h
 
 -- nothing of a whole text yet
 pub begun : (w : Writer) (whole : List ℕ) → Progress w whole w whole
