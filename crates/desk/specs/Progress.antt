@@ -19,7 +19,7 @@ to_come_at s opening r = to_come s opening r.number r.at (lines_left r)
 
 -- the whole text is told up to where waiting is over; or it does not fit
 abbrev pub Waits : Sequel → Writer → Reader → Writer → Reader → Result (Option Opening) Full → Type 0
-Waits s old from new reader (Err full) = Overflows old (waiting_at s from)
+Waits s old from new reader (Err full) = Overflows old (waiting_at s from) new
 Waits s old from new reader (Ok opening) = Progress old (waiting_at s from) new (to_come_at s opening reader)
 
 -- the text of an input is put from the top, and the answer is where it ends;

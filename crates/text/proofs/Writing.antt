@@ -1,6 +1,7 @@
 -- Texts written one after the other.
 use Rattle.std.proofs.Common.{◌≡◌, ℕ, ◌+◌, ◌-◌, ◌≤◌, List, [], ◌++◌, length, take, drop, Ok, Err, Result, sym, refl, ap, ◌∙◌, subst, append_assoc, append-nil, arith}
 use Rattle.std.proofs.lemmas.List.{drop-drop, length-append, length-drop, length-take}
+use Rattle.std.specs.Result.{IsErr}
 use Rattle.text.specs.declared.writer.Full.{Full}
 use Rattle.text.specs.declared.writer.Writer.{Writer}
 use Rattle.text.specs.Puts.{Put}
@@ -36,16 +37,25 @@ module _ {a b : Writer} {s : List ℕ} (first : Wrote a s b) where
         };
       }
 
-  pub overflows_then : {t : List ℕ} → Overflows b t → Overflows a (s ++ t)
-  overflows_then {t} h = record { long = omega (arith, first.put.ends, put_length a.within first.put, length-append s t, h.long) }
+  pub overflows_then : {c : Writer} {t : List ℕ} → Overflows b t c → Overflows a (s ++ t) c
+  overflows_then {c} {t} h = record {
+    same = h.same ∙ first.same;
+    long = omega (arith, first.put.ends, put_length a.within first.put, length-append s t, h.long);
+    keeps = h.keeps ∙ put_length a.within first.put;
+  }
 
   pub writes_then : (c : Writer) (t : List ℕ) (r : Result (Unit {0}) Full) → Writes b t c r → Writes a (s ++ t) c r
   writes_then c t (Err full) h = overflows_then h
   writes_then c t (Ok done) h = wrote_then h
 
 -- where the front of a text does not fit, the whole does not
-pub overflows_front : {w : Writer} {s : List ℕ} (t : List ℕ) → Overflows w s → Overflows w (s ++ t)
-overflows_front {w} {s} t h = record { long = omega (arith, h.long, length-append s t) }
+pub overflows_front : {w v : Writer} {s : List ℕ} (t : List ℕ) → Overflows w s v → Overflows w (s ++ t) v
+overflows_front {w} {v} {s} t h = record { same = h.same; long = omega (arith, h.long, length-append s t); keeps = h.keeps }
+
+-- where a `?` hands on that a text does not fit
+pub handed_on : {old new : Writer} {text : List ℕ} (r : Result (Unit {0}) Full) → IsErr r → Overflows old text new → Writes old text new r
+handed_on (Ok done) e h = cc
+handed_on (Err full) e h = h
 
 -- nothing of a whole text yet
 pub begun : (w : Writer) (whole : List ℕ) → Progress w whole w whole
@@ -69,10 +79,9 @@ module _ {old mid : Writer} {whole left : List ℕ} (p : Progress old whole mid 
   finished new r w = subst (λ t. Writes old t new r) p.joins (writes_then p.wrote new left r w)
 
   -- where a piece does not fit, the whole does not
-  pub too_long : {piece : List ℕ} (rest : List ℕ) → left ≡ piece ++ rest → Overflows mid piece → Overflows old whole
-  too_long {piece} rest cut short =
-      let long = short.long in
-      finished mid (Err (record {})) (record { long = omega (arith, ap length cut, length-append piece rest) })
+  pub too_long : {new : Writer} {piece : List ℕ} (rest : List ℕ) → left ≡ piece ++ rest → Overflows mid piece new → Overflows old whole new
+  too_long {new} {piece} rest cut short =
+      finished new (Err (record {})) (subst (λ t. Overflows mid t new) (sym cut) (overflows_front rest short))
 
   -- nothing more to come
   pub all_written : left ≡ [] → Wrote old whole mid

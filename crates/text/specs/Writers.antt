@@ -16,13 +16,15 @@ pub record Wrote (old : Writer) (text : List ℕ) (new : Writer) : Type 0 where
   pub same : new.out.ghost_name ≡ old.out.ghost_name
   pub put : Put old.out.now old.at text new.out.now new.at
 
--- the text does not fit behind what was written before
-pub record Overflows (old : Writer) (text : List ℕ) : Type 0 where
+-- the text does not fit behind what was written before; the slice is the same, of the same length
+pub record Overflows (old : Writer) (text : List ℕ) (new : Writer) : Type 0 where
+  pub same : new.out.ghost_name ≡ old.out.ghost_name
   pub long : length old.out.now < old.at + length text
+  pub keeps : length new.out.now ≡ length old.out.now
 
 -- the text was written, or it does not fit
 abbrev pub Writes : Writer → List ℕ → Writer → Result (Unit {0}) Full → Type 0
-Writes old text new (Err full) = Overflows old text
+Writes old text new (Err full) = Overflows old text new
 Writes old text new (Ok done) = Wrote old text new
 
 -- of a whole text so much was written, and the rest is still to come

@@ -1,5 +1,4 @@
-use Rattle.std.proofs.lemmas.Result.{err_from_is_err_and}
-use Rattle.text.proofs.Writing.{begun, finished, grown, retold, too_long}
+use Rattle.text.proofs.Writing.{begun, finished, grown, handed_on, retold, too_long}
 use Rattle.desk.proofs.Rows.{page_ends, page_goes_on, page_starts}
 use Rattle.desk.proofs.printed.put_page.Goals as goal
 
@@ -8,8 +7,7 @@ loop-i-init c = retold (begun _ _) (page_starts c.args.session c.args.rows.now c
 
 pub returns-in_err-put_row : goal.returns-in_err-put_row
 returns-in_err-put_row c =
-    let p = err_from_is_err_and c.from_residual.result c.from_residual.ensures.1 in
-    rw p.1 (too_long c.loop-i.invariant _ (page_goes_on c.args.session c.args.rows.now c.args.sums c.loop-i.i _ c.loop-i-test.true) c.in_err-put_row.ensures)
+    handed_on _ c.from_residual.ensures.0 (too_long c.loop-i.invariant _ (page_goes_on c.args.session c.args.rows.now c.args.sums c.loop-i.i _ c.loop-i-test.true) c.in_err-put_row.ensures)
 
 pub loop-i-preserved : goal.loop-i-preserved
 loop-i-preserved c = grown c.loop-i.invariant (page_goes_on c.args.session c.args.rows.now c.args.sums c.loop-i.i _ c.loop-i-test.true) c.in_ok-put_row.ensures

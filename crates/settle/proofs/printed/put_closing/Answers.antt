@@ -1,23 +1,20 @@
 use Rattle.std.proofs.Common.{subst}
-use Rattle.std.proofs.lemmas.Result.{err_from_is_err_and}
 use Rattle.kinds.specs.Meaning.{cents_of}
 use Rattle.text.specs.Writers.{Overflows, Writes}
-use Rattle.text.proofs.Writing.{overflows_front, overflows_then, writes_then, wrote_then}
+use Rattle.text.proofs.Writing.{handed_on, overflows_front, overflows_then, writes_then, wrote_then}
 use Rattle.settle.specs.Lines.{final_text}
 use Rattle.settle.proofs.Closing.{closing, end}
 use Rattle.settle.proofs.printed.put_closing.Goals as goal
 
 pub returns-in_err-put_pieces : goal.returns-in_err-put_pieces
 returns-in_err-put_pieces c =
-    let p = err_from_is_err_and c.from_residual.result c.from_residual.ensures.1 in
     let long = overflows_front end (overflows_front (final_text (cents_of c.args.price)) c.in_err-put_pieces.ensures) in
-    rw p.1 (subst (Overflows c.args.out.now) (closing c.args.records c.args.taken (cents_of c.args.price)) long)
+    handed_on _ c.from_residual.ensures.0 (subst (λ t. Overflows c.args.out.now t c.put_pieces.new.self) (closing c.args.records c.args.taken (cents_of c.args.price)) long)
 
 pub returns-in_err-put_final : goal.returns-in_err-put_final
 returns-in_err-put_final c =
-    let p = err_from_is_err_and c.from_residual-in_err-put_final.result c.from_residual-in_err-put_final.ensures.1 in
     let long = overflows_front end (overflows_then c.in_ok-put_pieces.ensures c.in_err-put_final.ensures) in
-    rw p.1 (subst (Overflows c.args.out.now) (closing c.args.records c.args.taken (cents_of c.args.price)) long)
+    handed_on _ c.from_residual-in_err-put_final.ensures.0 (subst (λ t. Overflows c.args.out.now t c.put_final.new.out) (closing c.args.records c.args.taken (cents_of c.args.price)) long)
 
 pub returns : goal.returns
 returns c =

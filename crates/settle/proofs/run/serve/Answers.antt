@@ -1,8 +1,7 @@
 use Rattle.std.proofs.Common.{ap, sym, ◌∙◌, subst, arith}
-use Rattle.std.proofs.lemmas.Result.{err_from_is_err_and}
 use Rattle.kinds.specs.Meaning.{cents_of}
 use Rattle.text.specs.Writers.{Writes}
-use Rattle.text.proofs.Writing.{finished, grown, retold, too_long}
+use Rattle.text.proofs.Writing.{finished, grown, handed_on, retold, too_long}
 use Rattle.desk.specs.Courses.{course}
 use Rattle.settle.specs.Lines.{closing_line}
 use Rattle.settle.proofs.Steps.{served_all, served_more}
@@ -29,8 +28,7 @@ returns-in_err-serve_record g c =
     let quotations = course g.K.Contract.means in
     let book = c.loop-place.book in
     let served = c.in_err-serve_record.ensures in
-    let p = err_from_is_err_and c.from_residual.result c.from_residual.ensures.1 in
-    rw p.1 (too_long c.loop-place.invariant.told _ (served_more quotations c.in-Some.ensures.steps book.taken _ book.kind _ served.kind served.taken) served.puts)
+    handed_on _ c.from_residual.ensures.0 (too_long c.loop-place.invariant.told _ (served_more quotations c.in-Some.ensures.steps book.taken _ book.kind _ served.kind served.taken) served.puts)
 
 pub returns : goal.returns
 returns g c =
