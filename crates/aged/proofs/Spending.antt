@@ -1,7 +1,7 @@
 -- One pass that counts n off the rows picked, and what is left once the rows that count nothing are gone.
-use Rattle.std.proofs.Common.{◌≡◌, ℕ, ◌+◌, ◌-◌, ◌<◌, ◌≤◌, min, Bool, true, false, cond, eqb, leb, ltb, ◌⊎◌, List, [], ◌∷◌, ◌++◌, length, get_or, take, drop, set, filter, sym, refl, ap, ◌∙◌, inl, inr, append_assoc, arith}
+use Rattle.std.proofs.Common.{◌≡◌, ℕ, ◌-◌, ◌<◌, ◌≤◌, min, Bool, true, false, cond, eqb, leb, ltb, ◌⊎◌, List, [], ◌∷◌, ◌++◌, length, take, drop, filter, sym, refl, ap, ◌∙◌, inl, inr, arith}
 use Rattle.std.proofs.lemmas.Bool.{ne_eqb, eqb-true, le-leb, lt-leb, leb-true, leb-false, lt-ltb, ltb-true}
-use Rattle.std.proofs.lemmas.List.{take_more_set, drop_more, drop_all, drop-set-lt, take-append-drop}
+use Rattle.std.proofs.lemmas.List.{drop_all, take-append-drop}
 use Rattle.aged.specs.Line.{Counting, AllCount, counts, held, take_picked, spent}
 use Rattle.aged.proofs.Rows.{kept_yes, kept_no}
 
@@ -12,9 +12,6 @@ all_count c (x ∷ rows) =
     [ true ↦ λ e. (ltb-true 0 (c.count x) e, all_count c rows) | false ↦ λ e. all_count c rows ] refl
 
 module _ {R : Type 0} (c : Counting R) (p : R → Bool) where
-  spent_part : (n : ℕ) (x : R) (rows : List R) → p x ≡ true → spent c p n (x ∷ rows) ≡ c.recount x (c.count x - n) ∷ spent c p (n - c.count x) rows
-  spent_part n x rows e = rw e
-
   none_spent : (n : ℕ) (rows : List R) → n ≡ 0 → spent c p n rows ≡ rows
   none_spent n [] e = refl
   none_spent n (x ∷ rows) e =
@@ -27,36 +24,6 @@ module _ {R : Type 0} (c : Counting R) (p : R → Bool) where
   pub record Spending (xs : List R) (n : ℕ) (ys : List R) (i left : ℕ) : Type 0 where
     pub rest : take i ys ++ spent c p left (drop i ys) ≡ spent c p n xs
     pub wanted : left - held c (filter p (drop i ys)) ≡ n - held c (filter p xs)
-
-  pub spending_none : (xs : List R) (n : ℕ) → Spending xs n xs 0 n
-  spending_none xs n = record { rest = refl; wanted = refl }
-
-  module _ {xs : List R} {n : ℕ} {ys : List R} {i left : ℕ} {x : R} (h : Spending xs n ys i left) (in_ys : i < length ys) (is : x ≡ get_or ys i x) where
-    reads : drop i ys ≡ x ∷ drop (i + 1) ys
-    reads = drop_more ys i x in_ys ∙ ap (λ y. y ∷ drop (i + 1) ys) (sym is)
-
-    -- The row read ends as y, and m are wanted after it.
-    next : (y : R) (m : ℕ) → spent c p left (x ∷ drop (i + 1) ys) ≡ y ∷ spent c p m (drop (i + 1) ys) →
-        left - held c (filter p (x ∷ drop (i + 1) ys)) ≡ m - held c (filter p (drop (i + 1) ys)) → Spending xs n (set ys i y) (i + 1) m
-    next y m e less =
-        let behind : drop (i + 1) (set ys i y) ≡ drop (i + 1) ys = drop-set-lt (i + 1) ys i y (omega arith) in
-        record {
-          rest =
-              ap (λ t. t ++ spent c p m (drop (i + 1) (set ys i y))) (take_more_set ys i y in_ys)
-              ∙ append_assoc (take i ys) (y ∷ []) (spent c p m (drop (i + 1) (set ys i y)))
-              ∙ ap (λ t. take i ys ++ t) (ap (λ t. y ∷ spent c p m t) behind ∙ sym e ∙ ap (spent c p left) (sym reads))
-              ∙ h.rest;
-          wanted = ap (λ t. m - held c (filter p t)) behind ∙ sym less ∙ ap (λ t. left - held c (filter p t)) (sym reads) ∙ h.wanted;
-        }
-
-    pub spending_past : p x ≡ false → Spending xs n (set ys i x) (i + 1) left
-    spending_past other = next x left (rw other) (ap (λ t. left - held c t) (kept_no p x (drop (i + 1) ys) other))
-
-    pub spending_part : (y : R) (m : ℕ) → y ≡ c.recount x (c.count x - left) → m ≡ left - c.count x → p x ≡ true → Spending xs n (set ys i y) (i + 1) m
-    spending_part y m recounted less mine =
-        next y m
-        (spent_part left x (drop (i + 1) ys) mine ∙ ap (λ z. z ∷ spent c p (left - c.count x) (drop (i + 1) ys)) (sym recounted) ∙ ap (λ k. y ∷ spent c p k (drop (i + 1) ys)) (sym less))
-        (omega (arith, ap (held c) (kept_yes p x (drop (i + 1) ys) mine)))
 
   -- Once nothing is wanted, or no row is left, all is taken that could be.
   pub spending_all : {xs : List R} {n : ℕ} {ys : List R} {i left : ℕ} → Spending xs n ys i left → left ≤ n → (left ≡ 0) ⊎ (length ys ≤ i) → (n - left ≡ min n (held c (filter p xs))) × (ys ≡ spent c p n xs)

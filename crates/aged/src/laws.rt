@@ -6,26 +6,31 @@ ghost use Rattle.aged.specs.Laws.{NothingLost, NothingLostByOwner, InOrder, InOr
 use super::{Owned, Row};
 
 /// What went and what stands count together what was put in.
+#[tactic(auto, using(crate::proofs::Histories::nothing_lost))]
 pub fn nothing_lost<R: Row>()
     ensures { NothingLost R.Row.counting }
 {}
 
 /// The same, owner by owner.
+#[tactic(auto, using(crate::proofs::Histories::nothing_lost_by_owner))]
 pub fn nothing_lost_by_owner<R: Owned>()
     ensures { NothingLostByOwner R.Row.counting R.Owned.whose }
 {}
 
 /// First in, first out, unit by unit.
+#[tactic(auto, using(crate::proofs::Histories::in_order))]
 pub fn in_order<R: Row>()
     ensures { InOrder R.Row.counting }
 {}
 
 /// The same of each owner's units, whatever is taken.
+#[tactic(auto, using(crate::proofs::Histories::in_order_by_owner))]
 pub fn in_order_by_owner<R: Owned>()
     ensures { InOrderByOwner R.Row.counting R.Owned.whose }
 {}
 
 /// No row stands that counts nothing.
+#[tactic(auto, using(crate::proofs::Histories::closed_up))]
 pub fn closed_up<R: Row>()
     ensures { ClosedUp R.Row.counting }
 {}
