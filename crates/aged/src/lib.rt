@@ -58,16 +58,7 @@ impl<R: Row, const N: usize> Model for Line<R, N> {
     ghost invariant = { λ line. AllCount R.Row.counting line.rows.items };
 }
 
-impl<R: Row + Default, const N: usize> Line<R, N> {
-    /// A line with no row.
-    pub fn new() -> Self
-        ensures { result ≡ [] }
-    {
-        Line {
-            rows: ArrayVec::new(),
-        }
-    }
-
+impl<R: Row, const N: usize> Line<R, N> {
     /// The rows.
     pub fn as_slice(&self) -> &[R]
         ensures rows { result.now ≡ self.now }
@@ -99,6 +90,38 @@ impl<R: Row + Default, const N: usize> Line<R, N> {
         ensures { result ≡ held R.Row.counting self.now }
     {
         self.rows.iter().map(|row| u128::from(row.count())).sum()
+    }
+}
+
+impl<R: Owned, const N: usize> Line<R, N> {
+    /// The oldest row of an owner.
+    pub fn oldest_of(&self, owner: usize) -> Option<R>
+        ensures { result ≡ first (rows_of R.Owned.whose owner self.now) }
+    {
+        self.rows.iter().find(|row| row.owner() == owner).copied()
+    }
+
+    /// What an owner holds.
+    pub fn held_by(&self, owner: usize) -> u128
+        ensures { result ≡ held_by R.Row.counting R.Owned.whose owner self.now }
+    {
+        self.rows
+            .iter()
+            .filter(|row| row.owner() == owner)
+            .map(|row| u128::from(row.count()))
+            .sum()
+    }
+}
+
+// A default row fills the places that no row has: it counts nothing, and no caller sees it.
+impl<R: Row + Default, const N: usize> Line<R, N> {
+    /// A line with no row.
+    pub fn new() -> Self
+        ensures { result ≡ [] }
+    {
+        Line {
+            rows: ArrayVec::new(),
+        }
     }
 
     /// Takes n from the oldest rows, or as much as they count; says how much.
@@ -134,13 +157,6 @@ impl<R: Row + Default, const N: usize> Line<R, N> {
 }
 
 impl<R: Owned + Default, const N: usize> Line<R, N> {
-    /// The oldest row of an owner.
-    pub fn oldest_of(&self, owner: usize) -> Option<R>
-        ensures { result ≡ first (rows_of R.Owned.whose owner self.now) }
-    {
-        self.rows.iter().find(|row| row.owner() == owner).copied()
-    }
-
     /// Takes n from the oldest rows of an owner, or as much as the owner holds; says how much.
     pub fn take_of(&mut self, owner: usize, n: u32) -> u32
         ensures value { result ≡ min n (held_by R.Row.counting R.Owned.whose owner self.old) }
@@ -148,17 +164,6 @@ impl<R: Owned + Default, const N: usize> Line<R, N> {
         ensures within { length self.new ≤ length self.old }
     {
         self.take_picked(n, |row| row.owner() == owner)
-    }
-
-    /// What an owner holds.
-    pub fn held_by(&self, owner: usize) -> u128
-        ensures { result ≡ held_by R.Row.counting R.Owned.whose owner self.now }
-    {
-        self.rows
-            .iter()
-            .filter(|row| row.owner() == owner)
-            .map(|row| u128::from(row.count()))
-            .sum()
     }
 }
 

@@ -29,15 +29,7 @@ use text::writer::{Full, Writer};
 // A book has at most 260 sessions and an expiry, so 261 pages, each of at most 64 accounts.
 pub const PAGE_ROWS: usize = 16_704;
 
-// Where a run keeps its calls, their answers, and the rows of all its pages.
-#[derive(Drop)]
-pub struct Tables<'a> {
-    pub calls: &'a mut [Call],
-    pub log: &'a mut [Answer],
-    pub pages: &'a mut [PageRow],
-}
-
-// A reader, and tables with room for all that it has left.
+// A reader, and room for the calls of all that it has left, their answers, and the rows of their pages.
 #[derive(Drop)]
 struct Desk<'i, 't> {
     reader: Reader<'i>,
@@ -102,10 +94,16 @@ impl Desk<'_, '_> {
 }
 
 // Writes the report of an input into a slice, and answers where it ends. There must be a place for a call and for an answer to each record, and rows for every page that a book can have.
-pub fn settle(input: &[u8], tables: Tables, out: &mut [u8]) -> Option<usize>
-    ensures { Settles (length (lines input.now)) (length tables.entry.calls.now) (length tables.entry.log.now) (length tables.entry.pages.now) out.old (report input.now) out.new result }
+// The three slices stand apart: of a slice in a struct a caller would not learn that it keeps its length.
+pub fn settle(
+    input: &[u8],
+    calls: &mut [Call],
+    log: &mut [Answer],
+    pages: &mut [PageRow],
+    out: &mut [u8],
+) -> Option<usize>
+    ensures { Settles (length (lines input.now)) (length calls.old) (length log.old) (length pages.old) out.old (report input.now) out.new result }
 {
-    let Tables { calls, log, pages } = tables;
     let records = count_records(input);
     if calls.len() < records || log.len() < records || pages.len() < PAGE_ROWS {
         return None;

@@ -3,7 +3,7 @@ ghost use Rattle.std.specs.Prelude.{◌≡◌, ◌+◌, ◌*◌, ◌^◌, ◌≤
 ghost use Rattle.desk.specs.Report.{report as report_of};
 ghost use Rattle.desk.specs.declared.whole.Shortage.TheVariants.{Memory};
 
-use crate::run::{PAGE_ROWS, Tables, settle};
+use crate::run::{PAGE_ROWS, settle};
 use reader::whole::count_records;
 use std::alloc::{AllocError, Global};
 use std::error::Error;
@@ -26,12 +26,19 @@ pub enum Shortage {
     Room,
 }
 
+impl Shortage {
+    // What to tell a person. Display needs a formatter, which can want memory in its turn.
+    pub fn message(self) -> &'static str {
+        match self {
+            Shortage::Memory => "out of memory",
+            Shortage::Room => "the report outgrew its room",
+        }
+    }
+}
+
 impl fmt::Display for Shortage {
     fn fmt<W: fmt::Write>(&self, f: &mut fmt::Formatter<W>) -> fmt::Result {
-        match self {
-            Shortage::Memory => write!(f, "out of memory"),
-            Shortage::Room => write!(f, "the report outgrew its room"),
-        }
+        f.write_str(self.message())
     }
 }
 
@@ -53,10 +60,16 @@ pub fn room(records: usize, besides: usize) -> Option<usize>
 }
 
 // Writes the report into text that has room for it, and cuts it to its length.
-fn fill(input: &[u8], tables: Tables, mut text: Vec<u8>) -> Result<Vec<u8>, Shortage>
+fn fill(
+    input: &[u8],
+    calls: &mut [Call],
+    log: &mut [Answer],
+    pages: &mut [PageRow],
+    mut text: Vec<u8>,
+) -> Result<Vec<u8>, Shortage>
     ensures { IfOk result (λ v. v.items ≡ report_of input.now) }
 {
-    let end = settle(input, tables, &mut text).ok_or(Shortage::Room)?;
+    let end = settle(input, calls, log, pages, &mut text).ok_or(Shortage::Room)?;
     text.truncate(end);
     Ok(text)
 }
@@ -71,10 +84,5 @@ pub fn report(heap: Global, input: &[u8]) -> Result<Vec<u8>, Shortage>
     let mut calls = vec![in heap; Call::Designate; records]?;
     let mut log = vec![in heap; Ok(Reply::Accepted); records]?;
     let mut pages = vec![in heap; PageRow::default(); PAGE_ROWS]?;
-    let tables = Tables {
-        calls: &mut calls,
-        log: &mut log,
-        pages: &mut pages,
-    };
-    fill(input, tables, text)
+    fill(input, &mut calls, &mut log, &mut pages, text)
 }

@@ -6,7 +6,7 @@ use crate::terms::Terms;
 pub mod kind;
 
 // The last five indexes taken, the newest last; until the fifth has come, the places before the first hold the least price.
-// An array with a count and no ArrayVec: a kind is copied, and an ArrayVec can't be.
+// An array with a count and no ArrayVec, which can't be copied: whoever copies a kind today still can.
 #[derive(Clone, Copy)]
 pub struct LastFive {
     terms: Terms,

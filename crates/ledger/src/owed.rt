@@ -173,6 +173,7 @@ impl Valuation {
         requires owable { (i : ℕ) → i < length accounts.now → Owable settling self.size sheet.now.trades.now self.last self.price.number (i + 1) (slice_index_or accounts.now i nobody) }
         ensures { result.items ≡ numbered (owed_at settling self.size sheet.now.trades.now self.last self.price.number) 1 accounts.now }
     {
+        // A push for each: `collect` into an `ArrayVec` takes an allocator and answers a Result.
         let mut all = ArrayVec::new();
         for (i, account) in accounts.iter().enumerate() {
             let owed = self.owed_to(settling, sheet, i + 1, *account);

@@ -52,7 +52,7 @@ pub struct Ledger {
     lots: Line<Lot, LOT_ROWS>,
     notices: Line<Notice, NOTICE_ROWS>,
     session: u32,
-    // 0 before the first marking, and no Option: the view shows that 0, and the first margins count from it.
+    // Both 0 before the first marking, and no Options: the view shows these numbers, and the first margins count from that 0.
     price: u32,
     rate: u32,
     expired: bool,

@@ -30,6 +30,7 @@ impl<const LOW: u32, const HIGH: u32> Ranged<LOW, HIGH> {
     }
 }
 
+// Bounds for each alias, and not of `Ranged`: a proof knows no value of a constant of a generic impl.
 impl Price {
     pub const LEAST: u64 = 1;
 

@@ -9,13 +9,11 @@ ghost use Rattle.tally.specs.declared.refusal.Refusal.TheVariants.{Unbuildable};
 use crate::state::{BookTerms, Ledger};
 use aged::Line;
 use arrayvec::ArrayVec;
+use kinds::terms::Terms;
 use tally::refusal::Refusal;
 
 // No contract is listed for longer than a year of sessions.
 const MAX_SESSIONS: u64 = 260;
-
-// The largest size of a contract, in units.
-const MAX_SIZE: u32 = 100;
 
 // Whether the notice window suits the contract: inside the sessions before the last where it delivers, and none where it does not.
 fn has_window(terms: &BookTerms) -> bool
@@ -40,7 +38,7 @@ pub fn is_buildable(terms: &BookTerms) -> bool
 fn is_of_kind(terms: &BookTerms) -> bool
     ensures { result ≡ (between 1 100 terms.now.size && nat_le 1 terms.now.tick) }
 {
-    (1..=MAX_SIZE).contains(&terms.size) && terms.tick >= 1
+    Terms::new(terms.size, terms.currency, terms.tick).is_some()
 }
 
 impl Ledger {
@@ -63,6 +61,7 @@ impl Ledger {
             expired: false,
         }
     }
+
     // Opens a ledger with nothing in it, where a book can be built on the terms.
     pub fn open(terms: BookTerms) -> Result<Ledger, Refusal>
         ensures test { is_ok result ≡ can_open (terms_in terms) }
