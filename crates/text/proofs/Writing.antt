@@ -4,6 +4,13 @@ use Rattle.std.proofs.lemmas.List.{drop-drop, length-append, length-drop, length
 use Rattle.std.specs.Result.{IsErr}
 use Rattle.text.specs.declared.writer.Full.{Full}
 use Rattle.text.specs.declared.writer.Writer.{Writer}
+use Rattle.std.specs.Prelude.{ℤ, pos, ◌<ℤ◌, codes, decimal}
+use Rattle.std.specs.Fmt.{signed_decimal}
+use Rattle.std.proofs.Common.{nat_abs, negsuc}
+use Rattle.std.proofs.lemmas.Int.{ints}
+use Rattle.text.specs.declared.pieces.Piece.{Piece}
+use Rattle.text.specs.declared.pieces.Piece.TheVariants.{Amount}
+use Rattle.text.specs.Pieces.{piece_text}
 use Rattle.text.specs.Puts.{Put}
 use Rattle.text.specs.Writers.{Overflows, Progress, Writes, Wrote}
 
@@ -86,3 +93,13 @@ module _ {old mid : Writer} {whole left : List ℕ} (p : Progress old whole mid 
   -- nothing more to come
   pub all_written : left ≡ [] → Wrote old whole mid
   all_written e = finished mid (Ok tt) (subst (λ t. Wrote mid t mid) (sym e) (wrote_none mid))
+
+-- a debit's sign, and its digits behind it
+signed_down : (z : ℤ) → z <ℤ pos 0 → signed_decimal z ≡ codes "-" ++ decimal (nat_abs z)
+signed_down (pos n) h = absurd (omega (arith, ints))
+signed_down (negsuc n) h = refl
+
+-- an amount whose sign and digits are written apart
+pub debit_then : {a b : Writer} {p : Piece} {z : ℤ} (c : Writer) (r : Result (Unit {0}) Full) → p ≡ Amount z → z <ℤ pos 0 → Wrote a (codes "-") b → Writes b (decimal (nat_abs z)) c r → Writes a (piece_text p) c r
+debit_then {a} {b} {p} {z} c r e h first next =
+    subst (λ q. Writes a (piece_text q) c r) (sym e) (subst (λ t. Writes a t c r) (sym (signed_down z h)) (writes_then first c _ r next))

@@ -67,6 +67,8 @@ impl<'a> Writer<'a> {
     }
 
     // Writes a part of a line.
+    // The lemma lets the check see through a sign written apart, so that another sign is refused by what the text has to be.
+    #[tactic(auto, using(crate::proofs::Writing::debit_then))]
     fn put_piece(&mut self, piece: Piece) -> Result<(), Full>
         ensures { Writes self.old (piece_text piece.entry) self.new result }
     {
