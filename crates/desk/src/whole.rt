@@ -59,6 +59,13 @@ pub fn room(records: usize, besides: usize) -> Option<usize>
     records.checked_mul(LINE_ROOM)?.checked_add(besides)
 }
 
+// How many bytes a report can take that has the lines of every page besides.
+fn report_room(records: usize) -> Option<usize>
+    ensures { MatchOption result (2 ^ 64 ≤ 64 * records + 1102464) (λ n. n ≡ 64 * records + 1102464) }
+{
+    room(records, PAGES_ROOM)
+}
+
 // Writes the report into text that has room for it, and cuts it to its length.
 fn fill(
     input: &[u8],
@@ -79,7 +86,7 @@ pub fn report(heap: Global, input: &[u8]) -> Result<Vec<u8>, Shortage>
     ensures { IfOk result (λ v. v.items ≡ report_of input.now) }
 {
     let records = count_records(input);
-    let room = room(records, PAGES_ROOM).ok_or(Shortage::Room)?;
+    let room = report_room(records).ok_or(Shortage::Room)?;
     let text = vec![in heap; 0u8; room]?;
     let mut calls = vec![in heap; Call::Designate; records]?;
     let mut log = vec![in heap; Ok(Reply::Accepted); records]?;
