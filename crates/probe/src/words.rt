@@ -1,22 +1,26 @@
 // The words of a line, taken one by one.
-use std::str::{FromStr, Split};
+use std::str::FromStr;
 
-// The words that are left of a line, with a space between each two.
-#[derive(Drop)]
+// What is left of a line: nothing behind its last word.
+// No `Split`, which cannot be copied: whoever has the words of a line can look ahead on a copy.
+#[derive(Clone, Copy)]
 pub struct Words<'a> {
-    left: Split<'a, char>,
+    rest: Option<&'a str>,
 }
 
 impl<'a> Words<'a> {
     pub fn new(line: &'a str) -> Words<'a> {
-        Words {
-            left: line.split(' '),
-        }
+        Words { rest: Some(line) }
     }
 
     // The next word, which may be empty.
     pub fn word(&mut self) -> Option<&'a str> {
-        self.left.next()
+        let rest = self.rest?;
+        let (word, more) = rest
+            .split_once(' ')
+            .map_or((rest, None), |(word, more)| (word, Some(more)));
+        self.rest = more;
+        Some(word)
     }
 
     // The next word as a value: a number has no sign.
@@ -37,7 +41,7 @@ impl<'a> Words<'a> {
     }
 
     // Whether every word was taken.
-    pub fn is_done(mut self) -> bool {
-        self.word().is_none()
+    pub fn is_done(self) -> bool {
+        self.rest.is_none()
     }
 }
