@@ -12,33 +12,28 @@ pub trait Contract {
     // What the kind answers and becomes, with the laws that every kind owes.
     ghost means: { Meaning Self };
 
-    // What never changes of the contract.
-    fn terms(&self) -> Terms
-        ensures size { result.size ≡ means.size self.now }
-        ensures currency { result.currency ≡ means.currency self.now }
-        ensures tick { result.tick ≡ means.tick self.now };
-
     // How many units one contract is of.
     fn contract_size(&self) -> u32
         ensures value { result ≡ means.size self.now }
-        ensures within { (1 ≤ result) × (result ≤ 100) }
-    {
-        self.terms().size()
-    }
+        ensures within { (1 ≤ result) × (result ≤ 100) };
 
     // What prices are counted in.
     fn currency(&self) -> Currency
-        ensures { result ≡ means.currency self.now }
-    {
-        self.terms().currency()
-    }
+        ensures { result ≡ means.currency self.now };
 
     // The step that prices of trades go by, in cents.
     fn tick(&self) -> u32
         ensures value { result ≡ means.tick self.now }
-        ensures within { 1 ≤ result }
+        ensures within { 1 ≤ result };
+
+    // What never changes of the contract. The three above are within their ranges, so there are such terms.
+    // They are required one by one: with `terms` in their place, whoever implements a kind elsewhere would have to make one.
+    fn terms(&self) -> Terms
+        ensures size { result.size ≡ means.size self.now }
+        ensures currency { result.currency ≡ means.currency self.now }
+        ensures tick { result.tick ≡ means.tick self.now }
     {
-        self.terms().tick()
+        Terms::new(self.contract_size(), self.currency(), self.tick()).unwrap()
     }
 
     // Whether the contract ends in delivery.

@@ -6,6 +6,7 @@ ghost use Rattle.kinds.specs.Delivery.{delivery_rule, NoPrice, delivering};
 use crate::contract::Contract;
 use crate::quotation::{KindFault, Quotation};
 use crate::terms::Terms;
+use money::currency::Currency;
 use money::units::Price;
 
 // Its terms are all that it has.
@@ -26,8 +27,16 @@ impl Delivering {
 impl Contract for Delivering {
     ghost means = { delivering };
 
-    fn terms(&self) -> Terms {
-        self.terms
+    fn contract_size(&self) -> u32 {
+        self.terms.size()
+    }
+
+    fn currency(&self) -> Currency {
+        self.terms.currency()
+    }
+
+    fn tick(&self) -> u32 {
+        self.terms.tick()
     }
 
     fn delivers(&self) -> bool {

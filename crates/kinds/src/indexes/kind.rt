@@ -9,6 +9,7 @@ use crate::indexes::LastFive;
 use crate::means::mean_price;
 use crate::quotation::{KindFault, Quotation};
 use crate::terms::Terms;
+use money::currency::Currency;
 use money::units::Price;
 
 impl Quotation {
@@ -46,8 +47,16 @@ impl LastFive {
 impl Contract for LastFive {
     ghost means = { five };
 
-    fn terms(&self) -> Terms {
-        self.terms
+    fn contract_size(&self) -> u32 {
+        self.terms.size()
+    }
+
+    fn currency(&self) -> Currency {
+        self.terms.currency()
+    }
+
+    fn tick(&self) -> u32 {
+        self.terms.tick()
     }
 
     fn delivers(&self) -> bool {

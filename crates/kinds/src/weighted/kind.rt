@@ -9,6 +9,7 @@ use crate::means::mean_price;
 use crate::quotation::{KindFault, Quotation};
 use crate::terms::Terms;
 use crate::weighted::WeightedAverage;
+use money::currency::Currency;
 use money::units::Price;
 
 impl WeightedAverage {
@@ -30,8 +31,16 @@ impl WeightedAverage {
 impl Contract for WeightedAverage {
     ghost means = { weighted };
 
-    fn terms(&self) -> Terms {
-        self.terms
+    fn contract_size(&self) -> u32 {
+        self.terms.size()
+    }
+
+    fn currency(&self) -> Currency {
+        self.terms.currency()
+    }
+
+    fn tick(&self) -> u32 {
+        self.terms.tick()
     }
 
     fn delivers(&self) -> bool {
