@@ -8,7 +8,6 @@ ghost use Rattle.ledger.specs.declared.owed.Settling.TheVariants.{Marking};
 use crate::sheet::{Part, Sheet, Side};
 use crate::state::ACCOUNTS;
 use arrayvec::ArrayVec;
-use money::units::Price;
 use std::marker::Model;
 use tally::rows::Account;
 
@@ -81,24 +80,24 @@ fn balance(carried: i64, bought: i64, sold: i64) -> i64
 pub(crate) struct Valuation {
     pub size: u32,
     pub last: u32,
-    pub price: Price,
+    pub price: u32,
     ghost sized: { size ≤ 100 },
-    ghost priced: { last ≤ 999999 },
+    ghost priced: { (last ≤ 999999) × (price ≤ 999999) },
 }
 
 impl Valuation {
     // How far the price rises.
     fn rise(self) -> i64
-        ensures value { result ≡ pos self.price.number -ℤ pos self.last }
+        ensures value { result ≡ pos self.price -ℤ pos self.last }
         ensures below { unsigned_abs result ≤ 999999 }
     {
-        i64::from(self.price.cents()) - i64::from(self.last)
+        i64::from(self.price) - i64::from(self.last)
     }
 
     // What carried contracts gain.
     fn carried_gain(self, carried: i64) -> i64
         requires { unsigned_abs carried ≤ 3000 }
-        ensures value { result ≡ carried *ℤ (pos self.price.number -ℤ pos self.last) }
+        ensures value { result ≡ carried *ℤ (pos self.price -ℤ pos self.last) }
         ensures below { unsigned_abs result ≤ 2999997000 }
     {
         times(carried, self.rise())
@@ -106,10 +105,10 @@ impl Valuation {
 
     // What the contracts left of a side gain by the price.
     fn left_gain(self, left: Part) -> i64
-        ensures value { result ≡ pos (self.price.number * left.contracts) -ℤ pos left.value }
+        ensures value { result ≡ pos (self.price * left.contracts) -ℤ pos left.value }
         ensures below { unsigned_abs result ≤ 2999997000 }
     {
-        (u64::from(self.price.cents()) * left.contracts) as i64 - left.value as i64
+        (u64::from(self.price) * left.contracts) as i64 - left.value as i64
     }
 
     // An amount for each unit of the contract's size.
@@ -122,8 +121,8 @@ impl Valuation {
 
     // What a marking owes an account, from one pass over the sheet for each side.
     fn by_marking(self, sheet: &Sheet<'_>, number: usize, account: Account) -> Owed
-        requires { Owable Marking self.size sheet.now.trades.now self.last self.price.number number account }
-        ensures { result ≡ marking_owed self.size sheet.now.trades.now self.last self.price.number number account }
+        requires { Owable Marking self.size sheet.now.trades.now self.last self.price number account }
+        ensures { result ≡ marking_owed self.size sheet.now.trades.now self.last self.price number account }
     {
         let offset = u64::from(account.bought.min(account.sold));
         let bought = sheet.split(number, Side::Bought, offset);
@@ -142,8 +141,8 @@ impl Valuation {
     // What an expiry owes an account: what it carries gains from the last settlement price to the final one.
     fn by_expiry(self, account: Account) -> Owed
         requires contracts { unsigned_abs account.carried ≤ 3000 }
-        requires fits { unsigned_abs (expiry_owed self.size self.last self.price.number account).margin ≤ 600000000000 }
-        ensures { result ≡ expiry_owed self.size self.last self.price.number account }
+        requires fits { unsigned_abs (expiry_owed self.size self.last self.price account).margin ≤ 600000000000 }
+        ensures { result ≡ expiry_owed self.size self.last self.price account }
     {
         Owed {
             day_trade: 0,
@@ -153,8 +152,8 @@ impl Valuation {
 
     // What is owed to one account.
     fn owed_to(self, settling: Settling, sheet: &Sheet<'_>, number: usize, account: Account) -> Owed
-        requires { Owable settling self.size sheet.now.trades.now self.last self.price.number number account }
-        ensures { result ≡ owed_at settling self.size sheet.now.trades.now self.last self.price.number number account }
+        requires { Owable settling self.size sheet.now.trades.now self.last self.price number account }
+        ensures { result ≡ owed_at settling self.size sheet.now.trades.now self.last self.price number account }
     {
         match settling {
             Settling::Marking => self.by_marking(sheet, number, account),
@@ -170,8 +169,8 @@ impl Valuation {
         accounts: &[Account],
     ) -> ArrayVec<Owed, ACCOUNTS>
         requires few { length accounts.now ≤ 64 }
-        requires owable { (i : ℕ) → i < length accounts.now → Owable settling self.size sheet.now.trades.now self.last self.price.number (i + 1) (slice_index_or accounts.now i nobody) }
-        ensures { result.items ≡ numbered (owed_at settling self.size sheet.now.trades.now self.last self.price.number) 1 accounts.now }
+        requires owable { (i : ℕ) → i < length accounts.now → Owable settling self.size sheet.now.trades.now self.last self.price (i + 1) (slice_index_or accounts.now i nobody) }
+        ensures { result.items ≡ numbered (owed_at settling self.size sheet.now.trades.now self.last self.price) 1 accounts.now }
     {
         // A push for each: `collect` into an `ArrayVec` takes an allocator and answers a Result.
         let mut all = ArrayVec::new();

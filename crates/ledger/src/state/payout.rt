@@ -30,7 +30,7 @@ impl Ledger {
         let valuation = Valuation {
             size: self.terms.size,
             last: self.price,
-            price,
+            price: price.cents(),
         };
         let sheet = Sheet {
             trades: self.sheet(),

@@ -9,7 +9,7 @@ use Rattle.ledger.proofs.Paying.{read_signed}
 use Rattle.ledger.proofs.owed.Valuation.by_marking.Goals as goal
 
 abbrev owing : goal.After-scaled-2 → Owed
-owing c = marking_owed c.args.self.size c.args.sheet.now.trades.now c.args.self.last c.args.self.price.number c.args.number c.args.account
+owing c = marking_owed c.args.self.size c.args.sheet.now.trades.now c.args.self.last c.args.self.price c.args.number c.args.account
 
 offsets : (c : goal.After-scaled-2) → c.from-offset.result ≡ offset (prices c.args.number (buys c.args.sheet.now.trades.now)) (prices c.args.number (sells c.args.sheet.now.trades.now))
 unfolding offset
@@ -33,7 +33,7 @@ left_over : (c : goal.After-scaled-2) → to_z w64 (of_z w64 c.scaled-2.result) 
 unfolding margin
 left_over c =
     let v = c.args.self in
-    let price = v.price.number in
+    let price = v.price in
     let carried = c.args.account.carried in
     let b = c.split-bought.ensures in
     let s = c.split-sold.ensures in

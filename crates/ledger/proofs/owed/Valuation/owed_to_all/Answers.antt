@@ -15,11 +15,11 @@ pub push-requires : goal.push-requires
 push-requires c =
     let xs = c.args.accounts.now in
     let v = c.args.self in
-    let f = owed_at c.args.settling v.size c.args.sheet.now.trades.now v.last v.price.number in
+    let f = owed_at c.args.settling v.size c.args.sheet.now.trades.now v.last v.price in
     (omega arith, omega (arith, ap length c.loop-i.invariant, length_numbered f 1 (take c.loop-i.i xs), length-take-le c.loop-i.i xs (omega arith), c.requires.few))
 
 pub loop-i-preserved : goal.loop-i-preserved
 loop-i-preserved c =
     let v = c.args.self in
     c.push.ensures.items
-    ∙ number_more (owed_at c.args.settling v.size c.args.sheet.now.trades.now v.last v.price.number) c.args.accounts.now c.loop-i.i nobody c.loop-i-test.true c.owed_to-owed.ensures c.loop-i.invariant
+    ∙ number_more (owed_at c.args.settling v.size c.args.sheet.now.trades.now v.last v.price) c.args.accounts.now c.loop-i.i nobody c.loop-i-test.true c.owed_to-owed.ensures c.loop-i.invariant
