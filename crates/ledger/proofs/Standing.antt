@@ -1,29 +1,25 @@
 -- What every run keeps of the numbers of a ledger, account by account and row by row.
-use Rattle.std.proofs.Common.{◌≡◌, ℕ, ◌+◌, ◌-◌, ◌*◌, ◌<◌, ◌≤◌, true, cond, length, get_or, nat_abs, count_by, sym, ap, ◌∙◌, subst, arith}
+use Rattle.std.proofs.Common.{◌≡◌, ℕ, ◌+◌, ◌-◌, ◌*◌, ◌<◌, ◌≤◌, cond, length, get_or, nat_abs, count_by, sym, ap, ◌∙◌, subst, arith}
 use mathlib.Core.Logic.{∥∥₁_elim}
 use native.Mathlib.Bridge.{le_prop}
 use borrow.Author.Differences.{ints}
 use Rattle.std.specs.List.{AllByRecursion}
 use Rattle.std.proofs.lemmas.Nat.{mul-le}
 use Rattle.std.proofs.ByRecursion.{All-get_or, All-from_get_or}
-use Rattle.std.proofs.lemmas.Bool.{and_parts, cond_both, leb-true}
-use Rattle.money.specs.Ranges.{is_price}
+use Rattle.std.proofs.lemmas.Bool.{and_parts, cond_both}
 use Rattle.tally.specs.declared.rows.Account.{Account}
 use Rattle.tally.specs.Book.{Terms, View, Tally, account, buys, prices, seen, sells}
-use Rattle.tally.specs.Bounds.{Bounded, OwedBounded, TradeBounded}
+use Rattle.tally.specs.Bounds.{Bounded, TradeBounded}
 use Rattle.tally.specs.Law.{Buildable, Registered}
-use Rattle.tally.specs.Pages.{Listed, by_expiry, by_marking, roll}
 use Rattle.tally.specs.Questions.{find, is_buildable, nobody, opens_lot}
 use Rattle.tally.specs.Runs.{tally}
-use Rattle.tally.proofs.Facts.{between_is, get_d_numbered, length_numbered}
+use Rattle.tally.proofs.Facts.{between_is, length_numbered}
 use Rattle.tally.proofs.Law.{shows_account}
 use Rattle.tally.proofs.Runs.{no_window, shown_is_seen}
 use Rattle.ledger.specs.Limits.{AccountIn, InLimits}
-use Rattle.ledger.specs.declared.owed.Settling.{Settling}
-use Rattle.ledger.specs.declared.owed.Settling.TheVariants.{Marking, Expiry}
 use Rattle.ledger.specs.declared.state.Ledger.{Ledger}
 use Rattle.ledger.specs.Ledgers.{view, terms_of}
-use Rattle.ledger.specs.Owings.{Dealt, Owable, OwedIn, owed_at}
+use Rattle.ledger.specs.Owings.{Dealt, Owable}
 use Rattle.ledger.specs.Reached.{Reached}
 use Rattle.ledger.specs.Sheets.{no_trade}
 use Rattle.ledger.proofs.Tables.{bounded}
@@ -114,24 +110,6 @@ module _ (l : Ledger) where
         let s2 : ss ≤ (find (view l) k).sold = holds (λ r. omega (arith, (d r).1)) in
         (sym (ap (λ a. a.bought) find_is) ∙ omega arith, sym (ap (λ a. a.sold) find_is) ∙ omega arith)
 
-    marking_fits : (price : ℕ) → is_price price ≡ true → OwedIn (owed_at Marking l.terms.size (view l).sheet l.price price (1 + i) (get_or (view l).accounts i nobody))
-    marking_fits price e =
-        let listed = λ (b : Bounded (terms_of l) (view l)).
-        subst (λ (x : Listed). OwedBounded (by_marking (terms_of l) (view l) price x)) (get_d_numbered (λ k a. record { number = k; account = a }) 1 (view l).accounts i (record { number = 0; account = nobody }) nobody lt)
-        (All-get_or (λ x. OwedBounded (by_marking (terms_of l) (view l) price x)) (roll (view l)) i (record { number = 0; account = nobody }) (omega (arith, length_numbered {Y = Listed} (λ k a. record { number = k; account = a }) 1 (view l).accounts)) (b.marking_in price e)) in
-        (known (λ b. leb-true _ _ (listed b).0), known (λ b. leb-true _ _ (listed b).1))
-
-    expiry_fits : (price : ℕ) → is_price price ≡ true → OwedIn (owed_at Expiry l.terms.size (view l).sheet l.price price (1 + i) (get_or (view l).accounts i nobody))
-    expiry_fits price e =
-        let listed = λ (b : Bounded (terms_of l) (view l)).
-        subst (λ (x : Listed). OwedBounded (by_expiry (terms_of l) (view l) price x)) (get_d_numbered (λ k a. record { number = k; account = a }) 1 (view l).accounts i (record { number = 0; account = nobody }) nobody lt)
-        (All-get_or (λ x. OwedBounded (by_expiry (terms_of l) (view l) price x)) (roll (view l)) i (record { number = 0; account = nobody }) (omega (arith, length_numbered {Y = Listed} (λ k a. record { number = k; account = a }) 1 (view l).accounts)) (b.expiry_in price e)) in
-        (known (λ b. leb-true _ _ (listed b).0), known (λ b. leb-true _ _ (listed b).1))
-
-    fits : (s : Settling) (price : ℕ) → is_price price ≡ true → OwedIn (owed_at s l.terms.size (view l).sheet l.price price (1 + i) (get_or (view l).accounts i nobody))
-    fits Marking price e = marking_fits price e
-    fits Expiry price e = expiry_fits price e
-
   pub accounts_in : AllByRecursion AccountIn (view l).accounts
   accounts_in = All-from_get_or AccountIn (view l).accounts nobody account_in
 
@@ -139,7 +117,5 @@ module _ (l : Ledger) where
   contracts_in = All-from_get_or InLimits (view l).accounts nobody (λ i lt. (account_in i lt).0)
 
   -- what a page has to know of each account
-  pub owable : (s : Settling) (price : ℕ) → is_price price ≡ true → (i : ℕ) → i < length (view l).accounts → Owable s l.terms.size (view l).sheet l.price price (i + 1) (get_or (view l).accounts i nobody)
-  owable s price e i lt =
-      let number : 1 + i ≡ i + 1 = omega arith in
-      ((account_in i lt).0, dealt i lt, subst (λ k. OwedIn (owed_at s l.terms.size (view l).sheet l.price price k (get_or (view l).accounts i nobody))) number (fits i lt s price e))
+  pub owable : (i : ℕ) → i < length (view l).accounts → Owable (view l).sheet (i + 1) (get_or (view l).accounts i nobody)
+  owable i lt = ((account_in i lt).0, dealt i lt)

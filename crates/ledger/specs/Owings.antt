@@ -39,13 +39,9 @@ owed_at Expiry size sheet last price k a = expiry_owed size last price a
 abbrev pub Dealt : List Trade → ℕ → Account → Type 0
 Dealt sheet k a = (a.bought ≡ length (prices k (buys sheet))) × (a.sold ≡ length (prices k (sells sheet)))
 
--- both amounts fit a line of money
-abbrev pub OwedIn : Owed → Type 0
-OwedIn o = (unsigned_abs o.day_trade ≤ 600000000000) × (unsigned_abs o.margin ≤ 600000000000)
-
--- what is known of account k before a page: its contracts are within the limits, it has dealt what the sheet says, and what it is owed fits
-abbrev pub Owable : Settling → ℕ → List Trade → ℕ → ℕ → ℕ → Account → Type 0
-Owable s size sheet last price k a = InLimits a × Dealt sheet k a × OwedIn (owed_at s size sheet last price k a)
+-- what is known of account k before a page: its contracts are within the limits, and it has dealt what the sheet says
+abbrev pub Owable : List Trade → ℕ → Account → Type 0
+Owable sheet k a = InLimits a × Dealt sheet k a
 
 -- ---- what is paid
 abbrev pub line_to : Currency → ℕ → Residency → ℤ → Line

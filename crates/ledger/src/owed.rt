@@ -3,7 +3,6 @@ ghost use Rattle.std.specs.Prelude.{◌≡◌, ℕ, ◌+◌, ◌*◌, ◌<◌, �
 ghost use Rattle.tally.specs.Book.{numbered};
 ghost use Rattle.tally.specs.Questions.{nobody};
 ghost use Rattle.ledger.specs.Owings.{Owable, expiry_owed, marking_owed, owed_at};
-ghost use Rattle.ledger.specs.declared.owed.Settling.TheVariants.{Marking};
 
 use crate::sheet::{Part, Sheet, Side};
 use crate::state::ACCOUNTS;
@@ -70,7 +69,7 @@ fn offset_gain(bought: Part, sold: Part) -> i64
 fn balance(carried: i64, bought: i64, sold: i64) -> i64
     requires { (unsigned_abs carried ≤ 2999997000) × (unsigned_abs bought ≤ 2999997000) × (unsigned_abs sold ≤ 2999997000) }
     ensures value { result ≡ (carried +ℤ bought) -ℤ sold }
-    ensures below { unsigned_abs result ≤ 8999991000 }
+    ensures below { unsigned_abs result ≤ unsigned_abs carried + unsigned_abs bought + unsigned_abs sold }
 {
     carried + bought - sold
 }
@@ -106,7 +105,7 @@ impl Valuation {
     // What the contracts left of a side gain by the price.
     fn left_gain(self, left: Part) -> i64
         ensures value { result ≡ pos (self.price * left.contracts) -ℤ pos left.value }
-        ensures below { unsigned_abs result ≤ 2999997000 }
+        ensures below { unsigned_abs result ≤ 999999 * left.contracts }
     {
         (u64::from(self.price) * left.contracts) as i64 - left.value as i64
     }
@@ -114,14 +113,15 @@ impl Valuation {
     // An amount for each unit of the contract's size.
     fn scaled(self, amount: i64) -> i64
         requires { unsigned_abs amount ≤ 8999991000 }
-        ensures { result ≡ pos self.size *ℤ amount }
+        ensures value { result ≡ pos self.size *ℤ amount }
+        ensures below { unsigned_abs result ≤ 100 * unsigned_abs amount }
     {
         times(i64::from(self.size), amount)
     }
 
     // What a marking owes an account, from one pass over the sheet for each side.
     fn by_marking(self, sheet: &Sheet<'_>, number: usize, account: Account) -> Owed
-        requires { Owable Marking self.size sheet.now.trades.now self.last self.price number account }
+        requires { Owable sheet.now.trades.now number account }
         ensures { result ≡ marking_owed self.size sheet.now.trades.now self.last self.price number account }
     {
         let offset = u64::from(account.bought.min(account.sold));
@@ -140,8 +140,7 @@ impl Valuation {
 
     // What an expiry owes an account: what it carries gains from the last settlement price to the final one.
     fn by_expiry(self, account: Account) -> Owed
-        requires contracts { unsigned_abs account.carried ≤ 3000 }
-        requires fits { unsigned_abs (expiry_owed self.size self.last self.price account).margin ≤ 600000000000 }
+        requires { unsigned_abs account.carried ≤ 3000 }
         ensures { result ≡ expiry_owed self.size self.last self.price account }
     {
         Owed {
@@ -152,7 +151,7 @@ impl Valuation {
 
     // What is owed to one account.
     fn owed_to(self, settling: Settling, sheet: &Sheet<'_>, number: usize, account: Account) -> Owed
-        requires { Owable settling self.size sheet.now.trades.now self.last self.price number account }
+        requires { Owable sheet.now.trades.now number account }
         ensures { result ≡ owed_at settling self.size sheet.now.trades.now self.last self.price number account }
     {
         match settling {
@@ -169,7 +168,7 @@ impl Valuation {
         accounts: &[Account],
     ) -> ArrayVec<Owed, ACCOUNTS>
         requires few { length accounts.now ≤ 64 }
-        requires owable { (i : ℕ) → i < length accounts.now → Owable settling self.size sheet.now.trades.now self.last self.price (i + 1) (slice_index_or accounts.now i nobody) }
+        requires owable { (i : ℕ) → i < length accounts.now → Owable sheet.now.trades.now (i + 1) (slice_index_or accounts.now i nobody) }
         ensures { result.items ≡ numbered (owed_at settling self.size sheet.now.trades.now self.last self.price) 1 accounts.now }
     {
         // A push for each: `collect` into an `ArrayVec` takes an allocator and answers a Result.

@@ -1,5 +1,4 @@
 use Rattle.std.proofs.Common.{arith}
-use Rattle.ledger.proofs.Closing.{price_is}
 use Rattle.ledger.proofs.Standing.{few_accounts, owable, price_in, sheet_priced, size_in}
 use Rattle.ledger.proofs.state.Ledger.owed.Goals as goal
 
@@ -14,4 +13,4 @@ invariant_of-sheet c = record { priced = rw c.sheet.ensures (sheet_priced c.args
 pub owed_to_all-requires : goal.owed_to_all-requires
 owed_to_all-requires c =
     let l = c.args.self.now in
-    rw (c.accounts.ensures, c.sheet.ensures) (record { few = few_accounts l; owable = owable l c.args.settling c.cents.result (price_is _ c.cents.ensures.within) })
+    rw (c.accounts.ensures, c.sheet.ensures) (record { few = few_accounts l; owable = owable l })
