@@ -77,6 +77,9 @@ module _ (l : Ledger) where
   pub few_lots : length (view l).lots + count_by opens_lot (view l).accounts ≤ 1024
   few_lots = known (λ b. b.few_lots)
 
+  pub sheet_counted : (i : ℕ) → i < length (view l).sheet → (get_or (view l).sheet i no_trade).contracts ≤ 3000
+  sheet_counted i lt = known (λ b. (All-get_or (TradeBounded (length (view l).accounts)) (view l).sheet i no_trade lt b.trades_in).4)
+
   pub sheet_priced : (i : ℕ) → i < length (view l).sheet → (get_or (view l).sheet i no_trade).price ≤ 999999
   sheet_priced i lt = known (λ b. (All-get_or (TradeBounded (length (view l).accounts)) (view l).sheet i no_trade lt b.trades_in).2)
 
