@@ -37,15 +37,15 @@ module _ {R : Type 0} (c : Counting R) (p : R → Bool) where
   none_taken n [] e = refl
   none_taken n (x ∷ rows) e = rw e refl
 
-  taken_past : (n : ℕ) (x : R) (rows : List R) → p x ≡ false → take_picked c p n (x ∷ rows) ≡ x ∷ take_picked c p n rows
+  pub taken_past : (n : ℕ) (x : R) (rows : List R) → p x ≡ false → take_picked c p n (x ∷ rows) ≡ x ∷ take_picked c p n rows
   taken_past n x rows e =
       elim (eqb n 0) as (λ b. eqb n 0 ≡ b → take_picked c p n (x ∷ rows) ≡ x ∷ take_picked c p n rows)
       [ true ↦ λ z. rw (eqb-true n 0 z) (ap (λ l. x ∷ l) (sym (none_taken 0 rows refl))) | false ↦ λ z. rw (z, e) ] refl
 
-  taken_whole : (n : ℕ) (x : R) (rows : List R) → p x ≡ true → 0 < c.count x → c.count x ≤ n → take_picked c p n (x ∷ rows) ≡ take_picked c p (n - c.count x) rows
-  taken_whole n x rows e some le = rw (ne_eqb n 0 (λ z. omega arith), e, le-leb (c.count x) n le)
+  pub taken_whole : (n : ℕ) (x : R) (rows : List R) → p x ≡ true → (n ≡ 0 → ⊥) → c.count x ≤ n → take_picked c p n (x ∷ rows) ≡ take_picked c p (n - c.count x) rows
+  taken_whole n x rows e some le = rw (ne_eqb n 0 some, e, le-leb (c.count x) n le)
 
-  taken_part : (n : ℕ) (x : R) (rows : List R) → p x ≡ true → n < c.count x → take_picked c p n (x ∷ rows) ≡ c.recount x (c.count x - n) ∷ rows
+  pub taken_part : (n : ℕ) (x : R) (rows : List R) → p x ≡ true → n < c.count x → take_picked c p n (x ∷ rows) ≡ c.recount x (c.count x - n) ∷ rows
   taken_part n x rows e lt =
       elim (eqb n 0) as (λ b. eqb n 0 ≡ b → take_picked c p n (x ∷ rows) ≡ c.recount x (c.count x - n) ∷ rows)
       [ true ↦ λ z. rw (eqb-true n 0 z) (ap (λ y. y ∷ rows) (sym (c.recount_count x) ∙ ap (c.recount x) (omega arith))) | false ↦ λ z. rw (z, e, lt-leb (c.count x) n lt) ] refl
@@ -61,7 +61,7 @@ module _ {R : Type 0} (c : Counting R) (p : R → Bool) where
           | true ↦ λ covers. let le : c.count x ≤ n = leb-true (c.count x) n covers in
               let none : c.count (c.recount x (c.count x - n)) ≡ 0 = omega (arith, c.count_recount x (c.count x - n)) in
               kept_no (counts c) (c.recount x (c.count x - n)) (spent c p (n - c.count x) rows) (ap (ltb 0) none)
-              ∙ spent_kept (n - c.count x) rows all.1 ∙ sym (taken_whole n x rows e all.0 le)
+              ∙ spent_kept (n - c.count x) rows all.1 ∙ sym (taken_whole n x rows e (λ z. omega (arith, all.0)) le)
           | false ↦ λ more. let lt : n < c.count x = leb-false (c.count x) n more in
               kept_yes (counts c) (c.recount x (c.count x - n)) (spent c p (n - c.count x) rows) (lt-ltb 0 (c.count (c.recount x (c.count x - n))) (omega (arith, c.count_recount x (c.count x - n))))
               ∙ ap (λ l. c.recount x (c.count x - n) ∷ l) (spent_kept (n - c.count x) rows all.1 ∙ none_taken (n - c.count x) rows (omega arith)) ∙ sym (taken_part n x rows e lt)

@@ -1,5 +1,5 @@
 -- A line of rows, oldest first: what it holds, what is left of it when some is taken, and what goes.
-use Rattle.std.specs.Prelude.{◌≡◌, ℕ, ◌+◌, ◌-◌, ◌<◌, Bool, true, cond, List, [], ◌∷◌, ◌++◌, Some, None, filter, Option, ◌==◌, nat_le, nat_lt}
+use Rattle.std.specs.Prelude.{◌≡◌, ℕ, ◌+◌, ◌-◌, ◌<◌, Bool, true, cond, List, [], ◌∷◌, ◌++◌, take, Some, None, filter, Option, ◌==◌, nat_le, nat_lt}
 use Rattle.std.specs.Borrow.{Bor}
 use Rattle.std.specs.List.{AllByRecursion}
 
@@ -10,6 +10,10 @@ pub record Counting (R : Type 0) : Type 0 where
   pub count_recount : (x : R) (n : ℕ) → count (recount x n) ≡ n
   pub recount_recount : (x : R) (m n : ℕ) → recount (recount x m) n ≡ recount x n
   pub recount_count : (x : R) → recount x (count x) ≡ x
+
+-- The line in a slice: its first `used` rows, or all where it has fewer.
+abbrev pub line : {R : Type 0} → ℕ → List R → List R
+line used rows = take used rows
 
 -- Every row counts something.
 abbrev pub AllCount : {R : Type 0} → Counting R → List R → Type 0

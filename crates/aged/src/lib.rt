@@ -1,4 +1,5 @@
-//! A line of rows, oldest first, of which at most N stand at a time.
+//! A line of rows, oldest first: a `Line`, in which at most N stand at a time, or the first `used` places of a slice that the caller hands in.
+//! A `used` past the end of the slice is read as its length.
 #![tactic(auto)]
 
 ghost use Rattle.std.specs.Prelude.{◌≡◌, ℕ, ◌<◌, ◌≤◌, min, Bool, [], length, take, filter, MatchResult};
@@ -7,8 +8,10 @@ ghost use Rattle.aged.specs.Refusals.{Refused};
 
 pub mod example;
 pub mod laws;
+mod slices;
 
 use arrayvec::ArrayVec;
+pub use slices::{append, clear, held, held_by, oldest, oldest_of, take_of, take_oldest};
 use std::marker::Model;
 
 /// A row that counts something, so that a part of it can be taken.
