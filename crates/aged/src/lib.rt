@@ -2,7 +2,7 @@
 //! A `used` past the end of the slice is read as its length.
 #![tactic(auto)]
 
-ghost use Rattle.std.specs.Prelude.{◌≡◌, ℕ, ◌<◌, ◌≤◌, min, Bool, [], length, take, filter, MatchResult};
+ghost use Rattle.std.specs.Prelude.{◌≡◌, ℕ, ◌<◌, ◌≤◌, min, Bool, [], length, take, filter, MatchResult, ⊤};
 ghost use Rattle.aged.specs.Line.{Counting, append, counts, first, held, take_oldest, rows_of, held_by, take_of, take_picked, spent, Tests};
 ghost use Rattle.aged.specs.Refusals.{Refused};
 
@@ -12,6 +12,7 @@ mod slices;
 
 use arrayvec::ArrayVec;
 pub use slices::{append, clear, held, held_by, oldest, oldest_of, take_of, take_oldest};
+use std::alloc::AllocError;
 use std::marker::Model;
 
 /// A row that counts something, so that a part of it can be taken.
@@ -156,6 +157,19 @@ impl<R: Row + Default, const N: usize> Line<R, N> {
         ensures after { self.new ≡ [] }
     {
         self.rows.clear();
+    }
+}
+
+// A clone has the same rows. It takes no memory, so it never fails.
+impl<R: Row + Default, const N: usize> Clone for Line<R, N> {
+    ghost is_clone = { λ line clone. clone ≡ line };
+
+    ghost is_infallible = { λ _. ⊤ };
+
+    fn clone(&self) -> Result<Self, AllocError> {
+        let mut rows = ArrayVec::new();
+        rows.try_extend_from_slice(&self.rows).unwrap();
+        Ok(Line { rows })
     }
 }
 
