@@ -1,6 +1,7 @@
 // What holds of every line, whatever happens to it: each law is the contract of a function that does nothing.
 // All rows and one owner's rows have a law each: rows without owners obey the first, and an owner's rows keep their order also where it is another's that are taken.
-ghost use Rattle.std.specs.Prelude.{Bool};
+ghost use Rattle.std.specs.Prelude.{ℕ, Bool};
+ghost use Rattle.aged.specs.Line.{owned_by};
 ghost use Rattle.aged.specs.Laws.{NothingLost, NothingLostByOwner, InOrder, InOrderByOwner, ClosedUp, SplitByCount};
 
 use super::{Owned, Row};
@@ -38,4 +39,9 @@ pub fn closed_up<R: Row>()
 /// A row that is split changes in nothing but its count, whichever rows are taken: all, or one owner's.
 pub fn split_by_count<R: Row>()
     ensures { (picks : R → Bool) → SplitByCount R.Row.counting picks }
+{}
+
+/// The same where one owner's rows are taken.
+pub fn split_by_count_of_owner<R: Owned>()
+    ensures { (o : ℕ) → SplitByCount R.Row.counting (owned_by R.Owned.whose o) }
 {}
