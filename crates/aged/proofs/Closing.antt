@@ -12,11 +12,13 @@ pub record Closing {X : Type 0} (xs ys : List X) (k i : ℕ) (rest whole : List 
 next : {X : Type 0} (xs ys : List X) (i : ℕ) → drop i ys ≡ drop i xs → drop (i + 1) ys ≡ drop (i + 1) xs
 next xs ys i e = sym (drop-drop 1 i ys) ∙ ap (drop 1) e ∙ drop-drop 1 i xs
 
--- What is read at i begins what is left of the first n.
-pub reads : {X : Type 0} {x : X} (n i : ℕ) (xs : List X) → i < n → i < length xs → x ≡ get_or xs i x → drop i (take n xs) ≡ x ∷ drop (i + 1) (take n xs)
-reads {x = x} n i xs lt le is =
-    let long : i < length (take n xs) = simp length-take (omega arith) in
-    drop_more (take n xs) i x long ∙ ap (λ y. y ∷ drop (i + 1) (take n xs)) (get_or-take n xs i x lt ∙ sym is)
+-- What is read at i begins what is left.
+pub begins : {X : Type 0} {x : X} (i : ℕ) (xs : List X) → i < length xs → x ≡ get_or xs i x → drop i xs ≡ x ∷ drop (i + 1) xs
+begins {x = x} i xs lt is = drop_more xs i x lt ∙ ap (λ y. y ∷ drop (i + 1) xs) (sym is)
+
+-- The same of what is left of the first n.
+reads : {X : Type 0} {x : X} (n i : ℕ) (xs : List X) → i < n → i < length xs → x ≡ get_or xs i x → drop i (take n xs) ≡ x ∷ drop (i + 1) (take n xs)
+reads {x = x} n i xs lt le is = begins i (take n xs) (simp length-take (omega arith)) (is ∙ sym (get_or-take n xs i x lt))
 
 -- Past the end nothing is left.
 pub none_left : {X : Type 0} (n i : ℕ) (xs : List X) → min n (length xs) ≤ i → drop i (take n xs) ≡ []

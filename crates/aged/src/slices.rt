@@ -32,10 +32,12 @@ pub fn oldest<R: Row>(rows: &[R], used: usize) -> Option<R>
 pub fn oldest_of<R: Owned>(rows: &[R], used: usize, owner: usize) -> Option<R>
     ensures { result ≡ first (rows_of R.Owned.whose owner (line used rows.now)) }
 {
-    line(rows, used)
-        .iter()
-        .find(|row| row.owner() == owner)
-        .copied()
+    for row in line(rows, used) {
+        if row.owner() == owner {
+            return Some(*row);
+        }
+    }
+    None
 }
 
 /// What all rows count.
