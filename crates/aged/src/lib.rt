@@ -89,11 +89,11 @@ impl<R: Row, const N: usize> Line<R, N> {
         self.rows.first().copied()
     }
 
-    /// What all rows count. Every row counts less than 2 ^ 32, so the sum fits however many there are.
+    /// What all rows count.
     pub fn held(&self) -> u128
         ensures { result ≡ held R.Row.counting self.now }
     {
-        self.rows.iter().map(|row| u128::from(row.count())).sum()
+        held(self.rows.as_slice(), self.rows.len())
     }
 }
 
@@ -102,18 +102,14 @@ impl<R: Owned, const N: usize> Line<R, N> {
     pub fn oldest_of(&self, owner: usize) -> Option<R>
         ensures { result ≡ first (rows_of R.Owned.whose owner self.now) }
     {
-        self.rows.iter().find(|row| row.owner() == owner).copied()
+        oldest_of(self.rows.as_slice(), self.rows.len(), owner)
     }
 
     /// What an owner holds.
     pub fn held_by(&self, owner: usize) -> u128
         ensures { result ≡ held_by R.Row.counting R.Owned.whose owner self.now }
     {
-        self.rows
-            .iter()
-            .filter(|row| row.owner() == owner)
-            .map(|row| u128::from(row.count()))
-            .sum()
+        held_by(self.rows.as_slice(), self.rows.len(), owner)
     }
 }
 

@@ -40,7 +40,7 @@ pub fn oldest_of<R: Owned>(rows: &[R], used: usize, owner: usize) -> Option<R>
     None
 }
 
-/// What all rows count.
+/// What all rows count. Every row counts less than 2 ^ 32, so the sum fits however many there are.
 pub fn held<R: Row>(rows: &[R], used: usize) -> u128
     ensures { result ≡ held R.Row.counting (line used rows.now) }
 {
