@@ -32,6 +32,7 @@ pub fn oldest<R: Row>(rows: &[R], used: usize) -> Option<R>
 pub fn oldest_of<R: Owned>(rows: &[R], used: usize, owner: usize) -> Option<R>
     ensures { result ≡ first (rows_of R.Owned.whose owner (line used rows.now)) }
 {
+    // A loop: a chain with `find` took 1.85 times as long.
     for row in line(rows, used) {
         if row.owner() == owner {
             return Some(*row);
@@ -93,6 +94,7 @@ fn line<R>(rows: &[R], used: usize) -> &[R]
 
 // Takes n from the oldest rows that pass the test, or as much as they count; says how much.
 // A row that counts nothing goes too where it passes and something is still to be taken, and else it stays.
+// By index and in one pass: a pass that closes the line up, as a `Line`'s, would drop every row that counts nothing.
 fn take_picked<R: Row, F: Fn(&R) -> bool>(rows: &mut [R], used: &mut usize, n: u32, picks: F) -> u32
     requires { F.IsAlwaysCallable picks }
     ensures within { (used.new ≤ used.old) × (used.new ≤ length rows.new) }
